@@ -1,0 +1,6 @@
+//! midi_host.
+#![tactic(auto)]
+
+mod words;
+
+fn main(_rt: HostRuntime) {}
