@@ -1,0 +1,118 @@
+-- What each call answers after a list of steps: each refusal exactly where it comes, in the calls' order.
+use Rattle.std.specs.Prelude.{ℕ, ◌+◌, ◌-◌, ◌*◌, ◌%◌, ◌≡◌, Bool, true, false, ◌==◌, ◌||◌, ◌&&◌, not, if◌then◌else◌, nat_lt, nat_le, List, [], ◌∷◌, ◌++◌, length, Option, Some, None, is_some}
+use Rattle.std.specs.List.{list_any}
+use Rattle.jm_cmds.specs.declared.verbs.Command.{Command}
+use Rattle.jm_cmds.specs.declared.verbs.Command.TheVariants.{Sysex}
+use Rattle.jm_book.specs.declared.steps.Step.{Step}
+use Rattle.jm_book.specs.declared.steps.Config.{Config}
+use Rattle.jm_book.specs.declared.participants.Participant.{Participant}
+use Rattle.jm_book.specs.declared.answers.Entered.{Entered}
+use Rattle.jm_book.specs.declared.answers.Entered.TheVariants as entered
+use Rattle.jm_book.specs.declared.answers.Played.{Played}
+use Rattle.jm_book.specs.declared.answers.Played.TheVariants as played
+use Rattle.jm_book.specs.declared.answers.PlayFault.{PlayFault}
+use Rattle.jm_book.specs.declared.answers.PlayFault.TheVariants as refusal
+use Rattle.jm_book.specs.declared.answers.Cutted.{Cutted}
+use Rattle.jm_book.specs.declared.answers.Cutted.TheVariants as cutted
+use Rattle.jm_book.specs.declared.answers.Acked.{Acked}
+use Rattle.jm_book.specs.declared.answers.Acked.TheVariants as acked
+use Rattle.jm_book.specs.declared.answers.Joined.{Joined}
+use Rattle.jm_book.specs.declared.answers.Joined.TheVariants as joined
+use Rattle.jm_book.specs.Session.{Session, session_of, find_joined, has_slot, free_slot, distance, last_sent, tick_after, slowest, checkpoint_of}
+use Rattle.jm_book.specs.Section.{list_with, delta_with}
+
+-- the tape has as many steps as the session was made for
+abbrev pub is_full : Config → List Step → Bool
+is_full config steps = nat_le config.events (length steps)
+
+-- ---- enter
+
+abbrev pub enter_answer : Config → List Step → Entered
+enter_answer config steps =
+    if is_full config steps then entered.RecordFull config.events
+    else if nat_le 64 (session_of steps).entered then entered.PlayersFull 64
+    else entered.Player (session_of steps).entered
+
+-- ---- play
+
+-- local players have the numbers from 0 on, a participant 64 and its slot
+abbrev pub is_known : Session → ℕ → Bool
+is_known session player =
+    if nat_lt player 64 then nat_lt player session.entered
+    else has_slot session.joined (player - 64)
+
+-- the limits of what may be pending: 256 commands, a MIDI list of 4,095 octets, a delta of four octets
+abbrev pub needs_cut : Session → Command → ℕ → Bool
+needs_cut session command tick =
+    nat_le 256 (length session.pending)
+    || nat_lt 4095 (list_with session command tick)
+    || nat_lt 0x0FFFFFFF (delta_with session tick)
+
+abbrev pub play_refusal : Config → List Step → ℕ → Command → ℕ → Option PlayFault
+play_refusal config steps player command tick =
+    if not (is_known (session_of steps) player) then Some refusal.UnknownPlayer
+    else if is_full config steps then Some (refusal.RecordFull config.events)
+    else if needs_cut (session_of steps) command tick then Some (refusal.NeedsCut (length (session_of steps).pending) (list_with (session_of steps) command tick) (delta_with (session_of steps) tick))
+    else None
+
+-- a SysEx of over 254 data octets is sent and not kept for repair
+abbrev pub is_kept : Command → Bool
+is_kept (Sysex octets) = nat_le (length octets) 254
+is_kept _ = true
+
+abbrev pub played_as : List Step → Command → Option PlayFault → Played
+played_as steps command (Some why) = played.Refused why command
+played_as steps command None = played.Accepted (session_of steps).plays (is_kept command)
+
+abbrev pub play_answer : Config → List Step → ℕ → Command → ℕ → Played
+play_answer config steps player command tick = played_as steps command (play_refusal config steps player command tick)
+
+-- ---- cut
+
+-- the journal's checkpoint is named by 16 bits, so no packet goes out 32,767 past it
+abbrev pub is_behind : Session → Bool
+is_behind session = nat_le 32767 (length session.packets - checkpoint_of session)
+
+abbrev pub behind_or_sent : Session → Option Participant → Cutted
+behind_or_sent session None = cutted.Packet (length session.packets)
+behind_or_sent session (Some one) =
+    if is_behind session then cutted.Behind one.ssrc one.mark else cutted.Packet (length session.packets)
+
+abbrev pub cut_answer : Config → List Step → Cutted
+cut_answer config steps =
+    if is_full config steps then cutted.RecordFull config.events
+    else behind_or_sent (session_of steps) (slowest (session_of steps).joined)
+
+-- ---- ack
+
+-- the last packet sent, if there is one
+abbrev pub last_packet : Session → Option ℕ
+last_packet session = if length session.packets == 0 then None else Some (last_sent session)
+
+abbrev pub moves_to : Session → Participant → ℕ → Acked
+moves_to session one seq =
+    if distance one.mark seq == 0 || nat_le 32768 (distance one.mark seq) then acked.Old one.mark
+    else if nat_le (length session.packets) (one.mark + distance one.mark seq) then acked.NotSent (last_packet session)
+    else acked.Moved (one.mark + distance one.mark seq)
+
+abbrev pub ack_of : Config → List Step → ℕ → Option Participant → Acked
+ack_of config steps seq None = acked.UnknownSsrc
+ack_of config steps seq (Some one) =
+    if is_full config steps then acked.RecordFull config.events
+    else moves_to (session_of steps) one seq
+
+abbrev pub ack_answer : Config → List Step → ℕ → ℕ → Acked
+ack_answer config steps ssrc seq = ack_of config steps seq (find_joined ssrc (session_of steps).joined)
+
+-- ---- join
+
+-- how many participants may be joined at once
+abbrev pub most_joined : ℕ
+most_joined = 1
+
+abbrev pub join_answer : Config → List Step → ℕ → Joined
+join_answer config steps ssrc =
+    if is_some (find_joined ssrc (session_of steps).joined) then joined.Already
+    else if is_full config steps then joined.RecordFull config.events
+    else if nat_le most_joined (length (session_of steps).joined) then joined.SessionFull most_joined
+    else joined.At (last_sent (session_of steps)) (64 + free_slot (session_of steps).joined)
