@@ -1,1 +1,2 @@
-pub mod Session
+pub mod Tape
+pub mod TapeView

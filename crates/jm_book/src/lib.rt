@@ -1,0 +1,11 @@
+//! One session: its players, its participants and their marks, what is pending, and the packets.
+#![tactic(auto)]
+
+mod answers;
+mod participants;
+mod steps;
+mod tape;
+
+pub use answers::{Acked, Cutted, Entered, Joined, PlayFault, Played};
+pub use participants::Participant;
+pub use steps::{Config, Step};
