@@ -1,5 +1,11 @@
 -- The words of a line, which one space parts.
-use Rattle.std.specs.Prelude.{ℕ, Bool, true, false, ◌≡◌, ◌+◌, ◌==◌, ◌&&◌, ◌||◌, not, if◌then◌else◌, nat_le, List, [], ◌∷◌, length, Option, Some, None, Result, Ok, Err}
+use Rattle.std.specs.Prelude.{ℕ, Bool, true, false, ◌≡◌, ◌+◌, ◌==◌, ◌&&◌, ◌||◌, not, if◌then◌else◌, nat_le, List, [], ◌∷◌, length, Option, Some, None, option_map, Result, Ok, Err, codes}
+use Rattle.std.specs.Result.{result_ok}
+use Rattle.std.specs.Str.{bytes_eq}
+use Rattle.std.specs.Int.{w32, from_be_bytes}
+use Rattle.hex.specs.Hex.{decode_of, decode_sized}
+use Rattle.midi_host.specs.declared.words.Keyword.{Keyword}
+use Rattle.midi_host.specs.declared.words.Keyword.TheVariants.{Session, Enter, Play, Cut}
 use Rattle.std.specs.List.{list_all}
 use Rattle.std.specs.Char.{is_ascii_digit}
 use Rattle.std.specs.Str.Parse.{digits_value}
@@ -23,3 +29,21 @@ is_number (c ∷ cs) = list_all is_ascii_digit (c ∷ cs) && (not (c == 48) || (
 abbrev pub number_of : ℕ → List ℕ → Option ℕ
 number_of most word =
     if is_number word && nat_le (digits_value 10 word) most then Some (digits_value 10 word) else None
+
+-- eight hexadecimal digits of either case, the high digit first: a number of 32 bits
+abbrev pub ssrc_of : List ℕ → Option ℕ
+ssrc_of word = option_map (from_be_bytes w32) (result_ok (decode_sized word 4))
+
+-- one or more pairs of hexadecimal digits of either case
+abbrev pub hex_of : List ℕ → Option (List ℕ)
+hex_of [] = None
+hex_of (c ∷ cs) = result_ok (decode_of (c ∷ cs))
+
+-- the first words of a script's lines
+abbrev pub keyword_of : List ℕ → Option Keyword
+keyword_of word =
+    if bytes_eq word (codes "session") then Some Session
+    else if bytes_eq word (codes "enter") then Some Enter
+    else if bytes_eq word (codes "play") then Some Play
+    else if bytes_eq word (codes "cut") then Some Cut
+    else None

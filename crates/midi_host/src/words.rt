@@ -1,9 +1,13 @@
 //! The words of a line: how they are parted, and the numbers and octets that they write.
 
-ghost use Rattle.std.specs.Prelude.{◌≡◌, ◌^◌, ◌≤◌, List, option_map};
+ghost use Rattle.std.specs.Prelude.{◌≡◌, ◌^◌, ◌≤◌, List, IfOk, option_map};
 ghost use Rattle.std.specs.List.{list_all};
 ghost use Rattle.std.specs.Char.{is_ascii_digit};
-ghost use Rattle.midi_host.specs.Words.{first_word, other_words, is_number, number_of};
+ghost use Rattle.midi_host.specs.Words.{first_word, other_words, is_number, number_of, ssrc_of, hex_of, keyword_of};
+
+use std::alloc::{AllocError, Global};
+
+use hex::FromHexError;
 
 
 
@@ -54,4 +58,57 @@ fn has_digits_alone(word: &[u8]) -> bool
     ensures { result ≡ list_all is_ascii_digit word.now }
 {
     word.iter().all(|c| c.is_ascii_digit())
+}
+
+/// The number that eight hexadecimal digits write, the high digit first.
+pub fn ssrc(word: &[u8]) -> Option<u32>
+    ensures { result ≡ ssrc_of word.now }
+{
+    let mut octets = [0u8; 4];
+    match hex::decode_to_slice(word, octets.as_mut_slice()) {
+        Ok(()) => Some(u32::from_be_bytes(octets)),
+        Err(_) => None,
+    }
+}
+
+/// The octets that one or more pairs of hexadecimal digits write. It fails where memory runs out.
+pub fn hex_octets(word: &[u8], alloc: Global) -> Result<Option<Vec<u8>>, AllocError>
+    ensures { IfOk result (λ octets. option_map (λ v. v.items) octets ≡ hex_of word.now) }
+{
+    if word.is_empty() {
+        return Ok(None);
+    }
+    match hex::decode(alloc, word) {
+        Ok(octets) => Ok(Some(octets)),
+        Err(FromHexError::OutOfMemory) => Err(AllocError),
+        Err(_) => Ok(None),
+    }
+}
+
+/// The first word of a script's line.
+#[derive(Clone, Copy, Debug, PartialEq, Eq)]
+pub enum Keyword {
+    Session,
+    Enter,
+    Play,
+    Cut,
+}
+
+/// The keyword that a word is, if it is one.
+pub fn read_keyword(word: &[u8]) -> Option<Keyword>
+    ensures { result ≡ keyword_of word.now }
+{
+    if word == b"session".as_slice() {
+        return Some(Keyword::Session);
+    }
+    if word == b"enter".as_slice() {
+        return Some(Keyword::Enter);
+    }
+    if word == b"play".as_slice() {
+        return Some(Keyword::Play);
+    }
+    if word == b"cut".as_slice() {
+        return Some(Keyword::Cut);
+    }
+    None
 }
