@@ -3,7 +3,13 @@
 #![tactic(auto)]
 
 mod delta;
+pub mod laws;
+mod number;
 mod octets;
 
-pub use delta::write_delta;
+pub use delta::{DeltaFault, delta_len, read_delta, write_delta};
+pub use number::extend16;
 pub use octets::Octets;
+
+#[cfg(test)]
+mod tests;

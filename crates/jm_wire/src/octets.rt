@@ -1,7 +1,7 @@
 //! A buffer of octets with room that is set once.
 
 ghost use Rattle.std.specs.Prelude.{◌≡◌, ◌+◌, ◌≤◌, ◌<◌, [], ◌∷◌, length, IfOk};
-ghost use Rattle.std.specs.Int.{w16, w32, w64, to_be_bytes};
+ghost use Rattle.jm_wire.specs.Numbers.{be16, be32, be64};
 
 use std::alloc::{AllocError, Global};
 use std::marker::Model;
@@ -54,7 +54,7 @@ impl Octets {
     /// Appends a number of 16 bits, the high octet first.
     pub fn push_u16(&mut self, v: u16)
         requires { 2 ≤ self.old.spare }
-        ensures { Appends self.old self.new (to_be_bytes w16 v) }
+        ensures { Appends self.old self.new (be16 v) }
     {
         self.push_slice(&v.to_be_bytes());
     }
@@ -62,7 +62,7 @@ impl Octets {
     /// Appends a number of 32 bits, the high octet first.
     pub fn push_u32(&mut self, v: u32)
         requires { 4 ≤ self.old.spare }
-        ensures { Appends self.old self.new (to_be_bytes w32 v) }
+        ensures { Appends self.old self.new (be32 v) }
     {
         self.push_slice(&v.to_be_bytes());
     }
@@ -70,7 +70,7 @@ impl Octets {
     /// Appends a number of 64 bits, the high octet first.
     pub fn push_u64(&mut self, v: u64)
         requires { 8 ≤ self.old.spare }
-        ensures { Appends self.old self.new (to_be_bytes w64 v) }
+        ensures { Appends self.old self.new (be64 v) }
     {
         self.push_slice(&v.to_be_bytes());
     }
