@@ -1,8 +1,8 @@
 //! The header and its twelve octets.
 
-ghost use Rattle.std.specs.Prelude.{◌≤◌};
+ghost use Rattle.std.specs.Prelude.{◌≡◌, ◌≤◌};
 ghost use Rattle.jm_wire.specs.Octets.{Appends};
-ghost use Rattle.jm_packet.specs.Header.{header};
+ghost use Rattle.jm_packet.specs.Header.{header, payload_octet_of};
 
 use jm_wire::Octets;
 
@@ -38,10 +38,21 @@ pub fn write_header(h: &Header, out: &mut Octets)
     ensures { Appends out.old out.new (header h.now) }
 {
     out.push(VERSION_2);
-    out.push(if h.marker { MARKER + PAYLOAD_TYPE } else { PAYLOAD_TYPE });
+    out.push(payload_octet(h.marker));
     out.push_u16(h.number);
     out.push_u32(h.tick);
     out.push_u32(h.ssrc);
+}
+
+/// The second octet: the payload type behind its marker bit.
+fn payload_octet(marker: bool) -> u8
+    ensures { result ≡ payload_octet_of marker }
+{
+    if marker {
+        MARKER + PAYLOAD_TYPE
+    } else {
+        PAYLOAD_TYPE
+    }
 }
 
 #[cfg(test)]
@@ -55,9 +66,17 @@ mod tests {
         if out.spare() < HEADER_LEN {
             return Ok(());
         }
-        let header = Header { number: 0x0102, tick: 0x0304_0506, ssrc: 0x1122_3344, marker: true };
+        let header = Header {
+            number: 0x0102,
+            tick: 0x0304_0506,
+            ssrc: 0x1122_3344,
+            marker: true,
+        };
         write_header(&header, &mut out);
-        assert_eq!(rt; out.as_slice(), [0x80, 0xe1, 1, 2, 3, 4, 5, 6, 0x11, 0x22, 0x33, 0x44].as_slice());
+        assert_eq!(rt;
+            out.as_slice(),
+            [0x80, 0xe1, 1, 2, 3, 4, 5, 6, 0x11, 0x22, 0x33, 0x44].as_slice()
+        );
         Ok(())
     }
 }

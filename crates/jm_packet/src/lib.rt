@@ -5,4 +5,4 @@
 
 mod header;
 
-pub use header::{Header, HEADER_LEN, write_header};
+pub use header::{HEADER_LEN, Header, write_header};
