@@ -3,6 +3,7 @@ use Rattle.std.specs.Prelude.{ℕ, ◌+◌, ◌-◌, ◌*◌, ◌%◌, ◌≡◌
 use Rattle.std.specs.List.{list_any}
 use Rattle.jm_cmds.specs.declared.verbs.Command.{Command}
 use Rattle.jm_cmds.specs.declared.verbs.Command.TheVariants.{Sysex}
+use Rattle.jm_cmds.specs.declared.sent.Sent.{Sent}
 use Rattle.jm_book.specs.declared.steps.Step.{Step}
 use Rattle.jm_book.specs.declared.steps.Config.{Config}
 use Rattle.jm_book.specs.declared.participants.Participant.{Participant}
@@ -18,8 +19,9 @@ use Rattle.jm_book.specs.declared.answers.Acked.{Acked}
 use Rattle.jm_book.specs.declared.answers.Acked.TheVariants as acked
 use Rattle.jm_book.specs.declared.answers.Joined.{Joined}
 use Rattle.jm_book.specs.declared.answers.Joined.TheVariants as joined
-use Rattle.jm_book.specs.Session.{Session, session_of, find_joined, has_slot, free_slot, distance, last_sent, tick_after, slowest, checkpoint_of}
-use Rattle.jm_book.specs.Section.{list_with, delta_with}
+use Rattle.jm_book.specs.Session.{Session, session_of, find_joined, has_slot, free_slot, distance, last_sent, tick_after, slowest, checkpoint_of, pending_of}
+use Rattle.jm_book.specs.Pending.{timed_of, last_tick}
+use Rattle.jm_section.specs.Section.{list_text}
 
 -- the tape has as many steps as the session was made for
 abbrev pub is_full : Config → List Step → Bool
@@ -40,6 +42,19 @@ abbrev pub is_known : Session → ℕ → Bool
 is_known session player =
     if nat_lt player 64 then nat_lt player session.entered
     else has_slot session.joined (player - 64)
+
+-- the ticks between the last pending command and one at this tick
+abbrev pub delta_with : Session → ℕ → ℕ
+delta_with session tick = tick_after session tick - last_tick (tick_after session tick) (pending_of session)
+
+-- the pending commands with one more
+abbrev pub pending_with : Session → Command → ℕ → List Sent
+pending_with session command tick =
+    pending_of session ++ record { packet = length session.packets; tick = tick_after session tick; command = command } ∷ []
+
+-- the length of their MIDI list
+abbrev pub list_with : Session → Command → ℕ → ℕ
+list_with session command tick = length (list_text (timed_of (pending_with session command tick)))
 
 -- the limits of what may be pending: 256 commands, a MIDI list of 4,095 octets, a delta of four octets
 abbrev pub needs_cut : Session → Command → ℕ → Bool
@@ -116,3 +131,25 @@ join_answer config steps ssrc =
     else if is_full config steps then joined.RecordFull config.events
     else if nat_le most_joined (length (session_of steps).joined) then joined.SessionFull most_joined
     else joined.At (last_sent (session_of steps)) (64 + free_slot (session_of steps).joined)
+
+-- ---- what a call leaves
+
+abbrev pub is_entered : Entered → Bool
+is_entered (entered.Player player) = true
+is_entered _ = false
+
+abbrev pub is_accepted : Played → Bool
+is_accepted (played.Accepted serial kept) = true
+is_accepted _ = false
+
+abbrev pub is_packet : Cutted → Bool
+is_packet (cutted.Packet number) = true
+is_packet _ = false
+
+abbrev pub is_moved : Acked → Bool
+is_moved (acked.Moved mark) = true
+is_moved _ = false
+
+abbrev pub is_joined : Joined → Bool
+is_joined (joined.At mark player) = true
+is_joined _ = false

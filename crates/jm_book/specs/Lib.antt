@@ -1,2 +1,7 @@
+pub mod Answers
+pub mod Book
+pub mod Kept
+pub mod Packet
+pub mod Pending
+pub mod Session
 pub mod Tape
-pub mod TapeView

@@ -1,8 +1,9 @@
 -- The session after a list of steps: one fold, in the words of players, packets and participants.
-use Rattle.std.specs.Prelude.{ℕ, ◌+◌, ◌-◌, ◌*◌, ◌%◌, ◌≡◌, Bool, true, false, ◌==◌, ◌||◌, not, max, min, if◌then◌else◌, nat_lt, nat_le, List, [], ◌∷◌, ◌++◌, length, map, fold, Option, Some, None}
+use Rattle.std.specs.Prelude.{ℕ, zero, suc, ◌+◌, ◌-◌, ◌*◌, ◌%◌, ◌≡◌, Bool, true, false, ◌==◌, ◌||◌, not, max, min, if◌then◌else◌, nat_lt, nat_le, List, [], ◌∷◌, ◌++◌, length, map, fold, Option, Some, None}
 use Rattle.std.specs.List.{list_any}
+use Rattle.std.proofs.Common.{refl, arith}
 use Rattle.jm_cmds.specs.declared.verbs.Command.{Command}
-use Rattle.jm_cmds.specs.declared.sending.Sent.{Sent}
+use Rattle.jm_cmds.specs.declared.sent.Sent.{Sent}
 use Rattle.jm_book.specs.declared.steps.Step.{Step}
 use Rattle.jm_book.specs.declared.steps.Step.TheVariants.{Enter, Play, Cut, Ack, Join}
 use Rattle.jm_book.specs.declared.participants.Participant.{Participant}
@@ -43,15 +44,14 @@ find_joined ssrc (one ∷ others) = if one.ssrc == ssrc then Some one else find_
 abbrev pub has_slot : List Participant → ℕ → Bool
 has_slot joined slot = list_any (λ one. one.slot == slot) joined
 
-abbrev pub least_free_of : List Participant → List ℕ → ℕ
-least_free_of joined [] = 0
-least_free_of joined (slot ∷ slots) = if has_slot joined slot then least_free_of joined slots else slot
+-- the first slot from `slot` on, of so many, that no joined participant has
+unfoldable pub free_from : List Participant → ℕ → ℕ → ℕ
+free_from joined zero slot = 0
+free_from joined (suc left) slot = if has_slot joined slot then free_from joined left (slot + 1) else slot
 
-abbrev pub slots : List ℕ
-slots = 0 ∷ 1 ∷ 2 ∷ 3 ∷ 4 ∷ 5 ∷ 6 ∷ 7 ∷ 8 ∷ 9 ∷ 10 ∷ 11 ∷ 12 ∷ 13 ∷ 14 ∷ 15 ∷ 16 ∷ 17 ∷ 18 ∷ 19 ∷ 20 ∷ 21 ∷ 22 ∷ 23 ∷ 24 ∷ 25 ∷ 26 ∷ 27 ∷ 28 ∷ 29 ∷ 30 ∷ 31 ∷ []
-
-unfoldable pub free_slot : List Participant → ℕ
-free_slot joined = least_free_of joined slots
+-- the least free slot of 32
+abbrev pub free_slot : List Participant → ℕ
+free_slot joined = free_from joined 32 0
 
 -- the mark of one SSRC, moved
 abbrev pub moved : ℕ → ℕ → List Participant → List Participant
@@ -144,3 +144,13 @@ mark_or other (Some one) = one.mark
 
 abbrev pub checkpoint_of : Session → ℕ
 checkpoint_of session = mark_or (last_sent session) (slowest session.joined)
+
+-- one slot is looked at
+pub free_from_more : (joined : List Participant) (left more slot : ℕ) → more ≡ left + 1 → free_from joined more slot ≡ (if has_slot joined slot then free_from joined left (slot + 1) else slot)
+unfolding free_from
+free_from_more joined left zero slot e = absurd (omega arith)
+free_from_more joined left (suc more) slot e = let same : more ≡ left = omega arith in rw same refl
+
+pub free_from_none : (joined : List Participant) (slot : ℕ) → free_from joined 0 slot ≡ 0
+unfolding free_from
+free_from_none joined slot = refl

@@ -1,5 +1,5 @@
 -- The tape: its steps, the commands of its plays, and for how many further steps it has room.
-use Rattle.std.specs.Prelude.{ℕ, ◌+◌, ◌≡◌, List, [], ◌∷◌, ◌++◌}
+use Rattle.std.specs.Prelude.{ℕ, ◌+◌, ◌-◌, ◌≡◌, ◌≤◌, min, List, [], ◌∷◌, ◌++◌, length}
 use Rattle.jm_cmds.specs.declared.sent.Sent.{Sent}
 use Rattle.jm_book.specs.declared.steps.Step.{Step}
 use Rattle.jm_book.specs.declared.steps.Step.TheVariants as step
@@ -13,10 +13,10 @@ pub record Taped : Type 0 where
   pub commands : List Sent
   pub spare : ℕ
 
--- one more step, and room for one less
+-- one more step, and room for at most one less
 pub record Grows (old new : Taped) (one : Step) : Type 0 where
   pub steps : new.steps ≡ old.steps ++ one ∷ []
-  pub spare : old.spare ≡ new.spare + 1
+  pub spare : old.spare ≤ new.spare + 1
 
 abbrev pub bare_step : Bare → Step
 bare_step bare.Enter = step.Enter
@@ -36,3 +36,18 @@ abbrev pub plays : List Mark → ℕ
 plays [] = 0
 plays (Other one ∷ marks) = plays marks
 plays (Play player tick ∷ marks) = plays marks + 1
+
+-- what is seen of marks, the commands of the plays, and the room of each list: the last is for the
+-- steps, woven together again
+abbrev pub taped : List Mark → List Sent → ℕ → ℕ → ℕ → Taped
+taped marks commands mark_room command_room step_room = record {
+  steps = woven marks commands;
+  commands = commands;
+  spare = min (mark_room - length marks) (min (command_room - length commands) (step_room - length marks))
+}
+
+-- each play has its command, and there is room to hand the steps out
+pub record IsTape (marks : List Mark) (commands : List Sent) (steps : List Step) (step_room : ℕ) : Type 0 where
+  pub all : plays marks ≡ length commands
+  pub out : steps ≡ []
+  pub room : length marks ≤ step_room

@@ -2,7 +2,7 @@
 //! chapters of the journal are asked of it; the tape weaves them together with the rest of the
 //! steps again when it is handed out.
 
-ghost use Rattle.std.specs.Prelude.{◌≡◌, ◌≤◌, ◌+◌, [], ◌∷◌, ◌++◌, IfOk, OnErr, OnOk, IsOk};
+ghost use Rattle.std.specs.Prelude.{◌≡◌, ◌≤◌, ◌+◌, length, [], ◌∷◌, ◌++◌, IfOk, OnErr, OnOk, IsOk};
 ghost use Rattle.jm_book.specs.Tape.{Taped, Grows, bare_step};
 
 use crate::steps::Step;
@@ -47,14 +47,14 @@ pub(crate) struct Tape {
 }
 
 impl Model for Tape {
-    ghost use Rattle.jm_book.specs.TapeView.{taped, IsTape};
-    ghost use Rattle.jm_book.specs.Tape.{Taped};
+    ghost use Rattle.std.specs.Prelude.{vec_capacity};
+    ghost use Rattle.jm_book.specs.Tape.{Taped, taped, IsTape};
 
     ghost Value = { Taped };
 
-    ghost view = { taped };
+    ghost view = { λ t. taped t.marks.items t.commands.items (vec_capacity t.marks) (vec_capacity t.commands) (vec_capacity t.steps) };
 
-    ghost invariant = { IsTape };
+    ghost invariant = { λ t. IsTape t.marks.items t.commands.items t.steps.items (vec_capacity t.steps) };
 }
 
 impl Tape {

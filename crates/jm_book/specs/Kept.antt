@@ -1,0 +1,26 @@
+-- How the fields of a book stand for the session after its steps.
+use Rattle.std.specs.Prelude.{ℕ, ◌≡◌, ◌+◌, ◌≤◌, ◌<◌, true, List, [], ◌∷◌, ◌++◌, length}
+use Rattle.jm_cmds.specs.declared.sent.Sent.{Sent}
+use Rattle.jm_section.specs.declared.next.Place.{Place}
+use Rattle.jm_section.specs.declared.next.Place.TheVariants.{First}
+use Rattle.jm_section.specs.Section.{list_text}
+use Rattle.jm_book.specs.declared.participants.Participant.{Participant}
+use Rattle.jm_book.specs.declared.progress.Progress.{Progress}
+use Rattle.jm_book.specs.Pending.{timed_of, last_tick, place_through, have_fields}
+use Rattle.jm_book.specs.Session.{Session, sent_of, pending_of}
+
+-- the counts stand for this session, whose commands are these
+pub record Counts (progress : Progress) (commands : List Sent) (session : Session) : Type 0 where
+  pub entered : progress.entered ≡ session.entered
+  pub packets : progress.packets ≡ length session.packets
+  pub first_pending : progress.first_pending ≡ length (sent_of session)
+  pub tick : progress.tick ≡ session.tick
+  pub list_len : progress.list_len ≡ length (list_text (timed_of (pending_of session)))
+  pub place : progress.place ≡ place_through First (timed_of (pending_of session))
+  pub commands_are : commands ≡ sent_of session ++ pending_of session
+  pub plays : length commands ≡ session.plays
+  pub last : last_tick session.tick (pending_of session) ≡ session.tick
+  pub fields : have_fields (timed_of (pending_of session)) ≡ true
+  pub short : progress.list_len ≤ 4095
+  pub few_players : progress.entered ≤ 64
+  pub few_pending : length (pending_of session) ≤ 256

@@ -1,0 +1,30 @@
+-- Commands of one packet as a MIDI list: each with the ticks since the one before it.
+use Rattle.std.specs.Prelude.{◌≡◌, ℕ, ◌+◌, ◌-◌, ◌^◌, ◌<◌, Bool, true, nat_lt, List, [], ◌∷◌, ◌++◌, length}
+use Rattle.std.specs.List.{list_all}
+use Rattle.jm_cmds.specs.declared.sent.Sent.{Sent}
+use Rattle.jm_section.specs.declared.next.Place.{Place}
+use Rattle.jm_section.specs.declared.next.Place.TheVariants.{First}
+use Rattle.jm_section.specs.Section.{Timed, place_after, list_text}
+
+abbrev pub timed_after : ℕ → List Sent → List Timed
+timed_after before [] = []
+timed_after before (one ∷ others) = record { delta = one.tick - before; command = one.command } ∷ timed_after one.tick others
+
+-- the first command's delta is 0
+abbrev pub timed_of : List Sent → List Timed
+timed_of [] = []
+timed_of (first ∷ others) = timed_after first.tick (first ∷ others)
+
+-- the tick of the last command, or another where there is none
+abbrev pub last_tick : ℕ → List Sent → ℕ
+last_tick other [] = other
+last_tick other (one ∷ others) = last_tick one.tick others
+
+-- the place behind commands
+abbrev pub place_through : Place → List Timed → Place
+place_through place [] = place
+place_through place (one ∷ others) = place_through (place_after place one.command) others
+
+-- each delta has a field of four octets at most
+abbrev pub have_fields : List Timed → Bool
+have_fields timed = list_all (λ one. nat_lt one.delta (2 ^ 28)) timed
