@@ -119,6 +119,11 @@ ack_of config steps seq (Some one) =
 abbrev pub ack_answer : Config → List Step → ℕ → ℕ → Acked
 ack_answer config steps ssrc seq = ack_of config steps seq (find_joined ssrc (session_of steps).joined)
 
+-- the mark that an acknowledgement moved to
+abbrev pub MovesTo : Acked → ℕ → Type 0
+MovesTo (acked.Moved mark) to = mark ≡ to
+MovesTo _ to = Unit {0}
+
 -- ---- join
 
 -- how many participants may be joined at once

@@ -7,7 +7,10 @@ use Rattle.jm_section.specs.Section.{list_text}
 use Rattle.jm_book.specs.declared.participants.Participant.{Participant}
 use Rattle.jm_book.specs.declared.progress.Progress.{Progress}
 use Rattle.jm_book.specs.Pending.{timed_of, last_tick, place_through, have_fields}
-use Rattle.jm_book.specs.Session.{Session, sent_of, pending_of}
+use Rattle.jm_book.specs.declared.steps.Config.{Config}
+use Rattle.jm_book.specs.Tape.{Taped}
+use Rattle.jm_book.specs.Answers.{most_joined}
+use Rattle.jm_book.specs.Session.{Session, session_of, sent_of, pending_of}
 
 -- the counts stand for this session, whose commands are these
 pub record Counts (progress : Progress) (commands : List Sent) (session : Session) : Type 0 where
@@ -24,3 +27,12 @@ pub record Counts (progress : Progress) (commands : List Sent) (session : Sessio
   pub short : progress.list_len ≤ 4095
   pub few_players : progress.entered ≤ 64
   pub few_pending : length (pending_of session) ≤ 256
+
+-- the fields of a book
+pub record IsKept (config : Config) (tape : Taped) (joined : List Participant) (progress : Progress) : Type 0 where
+  pub counts : Counts progress tape.commands (session_of tape.steps)
+  pub joined_are : joined ≡ (session_of tape.steps).joined
+  pub few_joined : length joined ≤ most_joined
+  pub few_steps : length tape.steps ≤ config.events
+  pub few_packets : progress.packets ≤ length tape.steps
+  pub bounds : (1 ≤ config.events) × (config.events ≤ 4194304)

@@ -81,10 +81,10 @@ tick_after session tick = max session.tick tick
 -- ---- steps
 
 -- an acknowledgement that was taken moves the mark up to its number
-abbrev pub acknowledged : Session → ℕ → Option Participant → Session
-acknowledged session seq None = session
-acknowledged session seq (Some one) =
-    record session { joined = moved one.ssrc (one.mark + distance one.mark seq) session.joined }
+abbrev pub acknowledged : Session → ℕ → ℕ → Option Participant → Session
+acknowledged session ssrc seq None = session
+acknowledged session ssrc seq (Some one) =
+    record session { joined = moved ssrc (one.mark + distance one.mark seq) session.joined }
 
 abbrev pub after : Session → Step → Session
 after session Enter = record session { entered = session.entered + 1 }
@@ -98,7 +98,7 @@ after session (Cut tick) = record session {
     pending = [];
     tick = tick_after session tick
   }
-after session (Ack ssrc seq) = acknowledged session seq (find_joined ssrc session.joined)
+after session (Ack ssrc seq) = acknowledged session ssrc seq (find_joined ssrc session.joined)
 after session (Join ssrc) = record session {
     joined = session.joined ++ record { ssrc = ssrc; mark = last_sent session; slot = free_slot session.joined } ∷ []
   }
@@ -154,3 +154,14 @@ free_from_more joined left (suc more) slot e = let same : more ≡ left = omega 
 pub free_from_none : (joined : List Participant) (slot : ℕ) → free_from joined 0 slot ≡ 0
 unfolding free_from
 free_from_none joined slot = refl
+
+pub length_moved : (ssrc mark : ℕ) (joined : List Participant) → length (moved ssrc mark joined) ≡ length joined
+length_moved ssrc mark [] = refl
+length_moved ssrc mark (one ∷ others) = elim (one.ssrc == ssrc) as (λ b. length (if b then record one { mark = mark } ∷ others else one ∷ moved ssrc mark others) ≡ length (one ∷ others)) [
+    true ↦ refl
+  | false ↦ omega (arith, length_moved ssrc mark others)
+  ]
+
+pub length_as_sent : (packet : ℕ) (entries : List Entry) → length (as_sent packet entries) ≡ length entries
+length_as_sent packet [] = refl
+length_as_sent packet (one ∷ others) = omega (arith, length_as_sent packet others)

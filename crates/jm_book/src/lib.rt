@@ -2,10 +2,14 @@
 #![tactic(auto)]
 
 mod answers;
+mod book;
+mod marks;
 mod participants;
+mod progress;
 mod steps;
 mod tape;
 
+pub use book::Book;
 pub use answers::{Acked, Cutted, Entered, Joined, PlayFault, Played};
 pub use participants::Participant;
 pub use steps::{Config, Step};
