@@ -4,12 +4,24 @@ use Rattle.std.specs.Prelude.{fold}
 use Rattle.std.proofs.lemmas.List.Sums.{fold-append}
 use Rattle.jm_book.specs.declared.steps.Config.{Config}
 use Rattle.jm_book.specs.declared.steps.Step.{Step}
-use Rattle.jm_book.specs.declared.steps.Step.TheVariants.{Ack}
+use Rattle.jm_book.specs.declared.steps.Step.TheVariants.{Ack, Play}
 use Rattle.jm_book.specs.declared.participants.Participant.{Participant}
 use Rattle.jm_book.specs.declared.progress.Progress.{Progress}
 use Rattle.jm_book.specs.Tape.{Taped}
-use Rattle.jm_book.specs.Session.{Session, session_of, after, nothing, find_joined, moved, distance, length_moved}
+use Rattle.jm_book.specs.Session.{Session, session_of, after, nothing, find_joined, moved, distance, length_moved, length_as_sent}
 use Rattle.jm_book.specs.Kept.{Counts, IsKept}
+use Rattle.std.proofs.Common.{◌-◌, ◌^◌, Bool, true, false, max, append_assoc}
+use Rattle.std.specs.Prelude.{nat_le, nat_lt, ◌||◌}
+use Rattle.std.proofs.lemmas.Bool.Decides.{nat_tests}
+use Rattle.jm_cmds.specs.declared.verbs.Command.{Command}
+use Rattle.jm_cmds.specs.declared.sent.Sent.{Sent}
+use Rattle.jm_section.specs.declared.next.Place.TheVariants.{First}
+use Rattle.jm_section.specs.Section.{Timed, place_after, list_text}
+use Rattle.jm_book.specs.Pending.{timed_of, last_tick, have_fields, place_through}
+use Rattle.jm_book.specs.Session.{sent_of, pending_of, tick_after}
+use Rattle.jm_book.specs.Answers.{needs_cut, list_with, delta_with}
+use Rattle.jm_book.proofs.Tests.{or_false}
+use Rattle.jm_book.proofs.Listing.{as_sent_push, last_tick_push, timed_of_push, place_through_push, have_fields_push}
 
 pub session_push : (steps : List Step) (step : Step) → session_of (steps ++ step ∷ []) ≡ after (session_of steps) step
 session_push steps step = fold-append after nothing steps (step ∷ [])
@@ -48,6 +60,60 @@ kept_ack config tape tape' joined joined' progress ssrc seq one kept found is_mo
       };
       joined_are = rw then_is refl;
       few_joined = omega (arith, few, kept.few_joined);
+      few_steps = omega (arith, longer);
+      few_packets = omega (arith, longer, kept.few_packets);
+      bounds = kept.bounds;
+    }
+
+-- the pending commands after one more play
+pub pending_push : (s : Session) (player tick : ℕ) (command : Command) → pending_of (after s (Play player command tick)) ≡ pending_of s ++ record { packet = length s.packets; tick = tick_after s tick; command = command } ∷ []
+pending_push s player tick command =
+    as_sent_push (length s.packets) s.pending record { player = player; serial = s.plays; tick = tick_after s tick; command = command }
+
+-- a command became pending
+pub kept_play : (config : Config) (tape tape' : Taped) (joined : List Participant) (progress : Progress) (player tick : ℕ) (command : Command)
+    → IsKept config tape joined progress
+    → needs_cut (session_of tape.steps) command tick ≡ false
+    → length tape.steps < config.events
+    → tape'.steps ≡ tape.steps ++ Play player command tick ∷ []
+    → tape'.commands ≡ tape.commands ++ record { packet = progress.packets; tick = tick_after (session_of tape.steps) tick; command = command } ∷ []
+    → IsKept config tape' joined record progress {
+        tick = tick_after (session_of tape.steps) tick;
+        list_len = list_with (session_of tape.steps) command tick;
+        place = place_after progress.place command
+      }
+kept_play config tape tape' joined progress player tick command kept fits room stepped taken =
+    let s = session_of tape.steps in
+    let one : Sent = record { packet = length s.packets; tick = tick_after s tick; command = command } in
+    let timed : Timed = record { delta = one.tick - last_tick one.tick (pending_of s); command = command } in
+    let then_is : session_of tape'.steps ≡ after s (Play player command tick) = rw (stepped, session_push) refl in
+    let pending_is = pending_push s player tick command in
+    let longer : length tape'.steps ≡ length tape.steps + 1 = rw stepped (length-append tape.steps (Play player command tick ∷ [])) in
+    let counted : length tape'.commands ≡ length tape.commands + 1 = rw taken (length-append tape.commands (record { packet = progress.packets; tick = tick_after s tick; command = command } ∷ [])) in
+    let more : length (pending_of s ++ one ∷ []) ≡ length (pending_of s) + 1 = length-append (pending_of s) (one ∷ []) in
+    let split = or_false (nat_le 256 (length s.pending) || nat_lt 4095 (list_with s command tick)) (nat_lt 0x0FFFFFFF (delta_with s tick)) fits in
+    let split' = or_false (nat_le 256 (length s.pending)) (nat_lt 4095 (list_with s command tick)) split.0 in
+    let few : length s.pending < 256 = grind (arith, nat_tests, split'.0) in
+    let short : list_with s command tick ≤ 4095 = grind (arith, nat_tests, split'.1) in
+    let near : delta_with s tick < 2 ^ 28 = grind (arith, nat_tests, split.1) in
+    record {
+      counts = rw then_is record {
+        entered = kept.counts.entered;
+        packets = kept.counts.packets;
+        first_pending = kept.counts.first_pending;
+        tick = refl;
+        list_len = rw pending_is refl;
+        place = rw (pending_is, timed_of_push (pending_of s) one, place_through_push First (timed_of (pending_of s)) timed, kept.counts.place) refl;
+        commands_are = rw (pending_is, taken, kept.counts.commands_are, kept.counts.packets) (append_assoc (sent_of s) (pending_of s) (one ∷ []));
+        plays = omega (arith, counted, kept.counts.plays);
+        last = rw pending_is (last_tick_push (tick_after s tick) (pending_of s) one);
+        fields = rw (pending_is, timed_of_push (pending_of s) one) (have_fields_push (timed_of (pending_of s)) timed kept.counts.fields near);
+        short = short;
+        few_players = kept.counts.few_players;
+        few_pending = rw pending_is (omega (arith, more, length_as_sent (length s.packets) s.pending));
+      };
+      joined_are = rw then_is kept.joined_are;
+      few_joined = kept.few_joined;
       few_steps = omega (arith, longer);
       few_packets = omega (arith, longer, kept.few_packets);
       bounds = kept.bounds;

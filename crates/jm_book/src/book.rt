@@ -15,7 +15,7 @@ use std::alloc::{AllocError, Global};
 use std::marker::Model;
 
 /// How many local players may enter.
-const MOST_PLAYERS: u8 = 64;
+pub(crate) const MOST_PLAYERS: u8 = 64;
 
 
 /// One session: its configuration and the list of the steps that were taken.

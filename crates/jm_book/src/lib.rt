@@ -5,6 +5,7 @@ mod answers;
 mod book;
 mod marks;
 mod participants;
+mod play;
 mod progress;
 mod steps;
 mod tape;

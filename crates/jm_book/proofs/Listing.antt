@@ -1,0 +1,60 @@
+-- One more pending command: its place in the plain list, and what it adds to the MIDI list.
+use Rattle.std.proofs.Common.{ℕ, ◌≡◌, ◌+◌, ◌-◌, ◌<◌, ◌≤◌, ◌^◌, ◌∙◌, refl, ap, sym, Bool, true, List, [], ◌∷◌, ◌++◌, length, arith, length-append, append_assoc}
+use Rattle.std.proofs.lemmas.List.{append-nil}
+use Rattle.std.proofs.lemmas.Bool.Decides.{nat_tests}
+use Rattle.std.specs.Prelude.{nat_lt, ◌&&◌}
+use Rattle.jm_book.proofs.Tests.{and_true}
+use Rattle.jm_cmds.specs.declared.verbs.Command.{Command}
+use Rattle.jm_cmds.specs.declared.sent.Sent.{Sent}
+use Rattle.jm_section.specs.declared.next.Place.{Place}
+use Rattle.jm_section.specs.declared.next.Place.TheVariants.{First}
+use Rattle.jm_section.specs.Section.{Timed, piece, pieces, place_after, list_text}
+use Rattle.jm_book.specs.Pending.{timed_after, timed_of, last_tick, place_through, have_fields}
+use Rattle.jm_book.specs.Session.{Entry, Packet, Session, as_sent, sent_from, sent_of, pending_of}
+
+pub as_sent_push : (packet : ℕ) (entries : List Entry) (one : Entry) → as_sent packet (entries ++ one ∷ []) ≡ as_sent packet entries ++ record { packet = packet; tick = one.tick; command = one.command } ∷ []
+as_sent_push packet [] one = refl
+as_sent_push packet (first ∷ others) one = ap (λ (xs : List Sent). record { packet = packet; tick = first.tick; command = first.command } ∷ xs) (as_sent_push packet others one)
+
+pub sent_from_push : (number : ℕ) (packets : List Packet) (one : Packet) → sent_from number (packets ++ one ∷ []) ≡ sent_from number packets ++ as_sent (number + length packets) one.entries
+sent_from_push number [] one = rw (append-nil (as_sent number one.entries)) (let same : number + 0 ≡ number = omega arith in rw same refl)
+sent_from_push number (first ∷ others) one =
+    let same : number + 1 + length others ≡ number + length (first ∷ others) = omega arith in
+    rw (sent_from_push (number + 1) others one, same) (sym (append_assoc (as_sent number first.entries) (sent_from (number + 1) others) (as_sent (number + length (first ∷ others)) one.entries)))
+
+pub last_tick_push : (other : ℕ) (sent : List Sent) (one : Sent) → last_tick other (sent ++ one ∷ []) ≡ one.tick
+last_tick_push other [] one = refl
+last_tick_push other (first ∷ others) one = last_tick_push first.tick others one
+
+pub timed_after_push : (before : ℕ) (sent : List Sent) (one : Sent) → timed_after before (sent ++ one ∷ []) ≡ timed_after before sent ++ record { delta = one.tick - last_tick before sent; command = one.command } ∷ []
+timed_after_push before [] one = refl
+timed_after_push before (first ∷ others) one =
+    ap (λ (ts : List Timed). record { delta = first.tick - before; command = first.command } ∷ ts) (timed_after_push first.tick others one)
+
+pub timed_of_push : (sent : List Sent) (one : Sent) → timed_of (sent ++ one ∷ []) ≡ timed_of sent ++ record { delta = one.tick - last_tick one.tick sent; command = one.command } ∷ []
+timed_of_push [] one = refl
+timed_of_push (first ∷ others) one = timed_after_push first.tick (first ∷ others) one
+
+pub pieces_push : (place : Place) (timed : List Timed) (one : Timed) → pieces place (timed ++ one ∷ []) ≡ pieces place timed ++ piece (place_through place timed) one
+pieces_push place [] one = append-nil (piece place one)
+pieces_push place (first ∷ others) one =
+    rw (pieces_push (place_after place first.command) others one) (sym (append_assoc (piece place first) (pieces (place_after place first.command) others) (piece (place_through (place_after place first.command) others) one)))
+
+pub place_through_push : (place : Place) (timed : List Timed) (one : Timed) → place_through place (timed ++ one ∷ []) ≡ place_after (place_through place timed) one.command
+place_through_push place [] one = refl
+place_through_push place (first ∷ others) one = place_through_push (place_after place first.command) others one
+
+pub last_tick_any : (other another : ℕ) (sent : List Sent) → 0 < length sent → last_tick other sent ≡ last_tick another sent
+last_tick_any other another [] some = absurd (omega arith)
+last_tick_any other another (first ∷ others) some = refl
+
+pub have_fields_push : (timed : List Timed) (one : Timed) → have_fields timed ≡ true → one.delta < 2 ^ 28 → have_fields (timed ++ one ∷ []) ≡ true
+have_fields_push [] one all last = grind (arith, nat_tests)
+have_fields_push (first ∷ others) one all last =
+    let split = and_true (nat_lt first.delta (2 ^ 28)) (have_fields others) all in
+    rw (split.0, have_fields_push others one split.1 last) refl
+
+-- the text with one more command
+pub list_text_push : (sent : List Sent) (one : Sent) → list_text (timed_of (sent ++ one ∷ [])) ≡ list_text (timed_of sent) ++ piece (place_through First (timed_of sent)) record { delta = one.tick - last_tick one.tick sent; command = one.command }
+list_text_push sent one =
+    rw (timed_of_push sent one) (pieces_push First (timed_of sent) record { delta = one.tick - last_tick one.tick sent; command = one.command })
