@@ -1,5 +1,5 @@
 -- One more pending command: its place in the plain list, and what it adds to the MIDI list.
-use Rattle.std.proofs.Common.{ℕ, ◌≡◌, ◌+◌, ◌-◌, ◌<◌, ◌≤◌, ◌^◌, ◌∙◌, refl, ap, sym, Bool, true, List, [], ◌∷◌, ◌++◌, length, arith, length-append, append_assoc}
+use Rattle.std.proofs.Common.{ℕ, ◌≡◌, ◌+◌, ◌-◌, ◌<◌, ◌≤◌, ◌^◌, ◌∙◌, refl, ap, sym, Bool, true, false, List, [], ◌∷◌, ◌++◌, length, arith, length-append, append_assoc}
 use Rattle.std.proofs.lemmas.List.{append-nil}
 use Rattle.std.proofs.lemmas.Bool.Decides.{nat_tests}
 use Rattle.std.specs.Prelude.{nat_lt, ◌&&◌}
@@ -8,9 +8,12 @@ use Rattle.jm_cmds.specs.declared.verbs.Command.{Command}
 use Rattle.jm_cmds.specs.declared.sent.Sent.{Sent}
 use Rattle.jm_section.specs.declared.next.Place.{Place}
 use Rattle.jm_section.specs.declared.next.Place.TheVariants.{First}
+use Rattle.std.proofs.Common.{◌/◌, ◌%◌}
+use Rattle.std.specs.Prelude.{if◌then◌else◌}
+use Rattle.jm_section.specs.Section.{header as section_header}
 use Rattle.jm_section.specs.Section.{Timed, piece, pieces, place_after, list_text}
-use Rattle.jm_book.specs.Pending.{timed_after, timed_of, last_tick, place_through, have_fields}
-use Rattle.jm_book.specs.Session.{Entry, Packet, Session, as_sent, sent_from, sent_of, pending_of}
+use Rattle.jm_book.specs.Pending.{timed_after, timed_of, first_tick, last_tick, place_through, have_fields}
+use Rattle.jm_book.specs.Session.{Entry, Packet, Session, packet_tick, as_sent, sent_from, sent_of, pending_of}
 
 pub as_sent_push : (packet : ℕ) (entries : List Entry) (one : Entry) → as_sent packet (entries ++ one ∷ []) ≡ as_sent packet entries ++ record { packet = packet; tick = one.tick; command = one.command } ∷ []
 as_sent_push packet [] one = refl
@@ -58,3 +61,18 @@ have_fields_push (first ∷ others) one all last =
 pub list_text_push : (sent : List Sent) (one : Sent) → list_text (timed_of (sent ++ one ∷ [])) ≡ list_text (timed_of sent) ++ piece (place_through First (timed_of sent)) record { delta = one.tick - last_tick one.tick sent; command = one.command }
 list_text_push sent one =
     rw (timed_of_push sent one) (pieces_push First (timed_of sent) record { delta = one.tick - last_tick one.tick sent; command = one.command })
+
+pub timed_of_is : (other : ℕ) (sent : List Sent) → timed_of sent ≡ timed_after (first_tick other sent) sent
+timed_of_is other [] = refl
+timed_of_is other (first ∷ others) = refl
+
+pub packet_tick_is : (packet tick : ℕ) (entries : List Entry) → packet_tick entries tick ≡ first_tick tick (as_sent packet entries)
+packet_tick_is packet tick [] = refl
+packet_tick_is packet tick (first ∷ others) = refl
+
+pub length_section_header : (len : ℕ) (journal : Bool) → length (section_header len journal) ≤ 2
+unfolding section_header
+length_section_header len journal = elim (nat_lt len 16) as (λ b. length (if b then ((if journal then 0x40 else 0) + len) ∷ [] else ((0x80 + (if journal then 0x40 else 0) + len / 256) ∷ (len % 256) ∷ [])) ≤ 2) [
+    true ↦ omega arith
+  | false ↦ omega arith
+  ]

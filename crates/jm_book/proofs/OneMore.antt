@@ -4,7 +4,7 @@ use Rattle.std.specs.Prelude.{fold}
 use Rattle.std.proofs.lemmas.List.Sums.{fold-append}
 use Rattle.jm_book.specs.declared.steps.Config.{Config}
 use Rattle.jm_book.specs.declared.steps.Step.{Step}
-use Rattle.jm_book.specs.declared.steps.Step.TheVariants.{Ack, Play}
+use Rattle.jm_book.specs.declared.steps.Step.TheVariants.{Ack, Play, Cut}
 use Rattle.jm_book.specs.declared.participants.Participant.{Participant}
 use Rattle.jm_book.specs.declared.progress.Progress.{Progress}
 use Rattle.jm_book.specs.Tape.{Taped}
@@ -18,10 +18,11 @@ use Rattle.jm_cmds.specs.declared.sent.Sent.{Sent}
 use Rattle.jm_section.specs.declared.next.Place.TheVariants.{First}
 use Rattle.jm_section.specs.Section.{Timed, place_after, list_text}
 use Rattle.jm_book.specs.Pending.{timed_of, last_tick, have_fields, place_through}
-use Rattle.jm_book.specs.Session.{sent_of, pending_of, tick_after}
+use Rattle.jm_book.specs.Session.{sent_of, pending_of, tick_after, packet_tick}
+use Rattle.std.proofs.lemmas.List.{append-nil}
 use Rattle.jm_book.specs.Answers.{needs_cut, list_with, delta_with}
 use Rattle.jm_book.proofs.Tests.{or_false}
-use Rattle.jm_book.proofs.Listing.{as_sent_push, last_tick_push, timed_of_push, place_through_push, have_fields_push}
+use Rattle.jm_book.proofs.Listing.{as_sent_push, sent_from_push, last_tick_push, timed_of_push, place_through_push, have_fields_push}
 
 pub session_push : (steps : List Step) (step : Step) → session_of (steps ++ step ∷ []) ≡ after (session_of steps) step
 session_push steps step = fold-append after nothing steps (step ∷ [])
@@ -111,6 +112,55 @@ kept_play config tape tape' joined progress player tick command kept fits room s
         short = short;
         few_players = kept.counts.few_players;
         few_pending = rw pending_is (omega (arith, more, length_as_sent (length s.packets) s.pending));
+      };
+      joined_are = rw then_is kept.joined_are;
+      few_joined = kept.few_joined;
+      few_steps = omega (arith, longer);
+      few_packets = omega (arith, longer, kept.few_packets);
+      bounds = kept.bounds;
+    }
+
+-- the sent commands after a cut
+pub sent_cut : (s : Session) (tick : ℕ) → sent_of (after s (Cut tick)) ≡ sent_of s ++ pending_of s
+sent_cut s tick =
+    let same : 0 + length s.packets ≡ length s.packets = omega arith in
+    rw same at (sent_from_push 0 s.packets record { tick = packet_tick s.pending (tick_after s tick); entries = s.pending })
+
+-- what was pending became a packet
+pub kept_cut : (config : Config) (tape tape' : Taped) (joined : List Participant) (progress : Progress) (tick : ℕ)
+    → IsKept config tape joined progress
+    → length tape.steps < config.events
+    → tape'.steps ≡ tape.steps ++ Cut tick ∷ []
+    → tape'.commands ≡ tape.commands
+    → IsKept config tape' joined record {
+        entered = progress.entered;
+        packets = progress.packets + 1;
+        first_pending = length tape.commands;
+        tick = tick_after (session_of tape.steps) tick;
+        list_len = 0;
+        place = First
+      }
+kept_cut config tape tape' joined progress tick kept room stepped same =
+    let s = session_of tape.steps in
+    let then_is : session_of tape'.steps ≡ after s (Cut tick) = rw (stepped, session_push) refl in
+    let sent_is = sent_cut s tick in
+    let longer : length tape'.steps ≡ length tape.steps + 1 = rw stepped (length-append tape.steps (Cut tick ∷ [])) in
+    let more : length (after s (Cut tick)).packets ≡ length s.packets + 1 = length-append s.packets (record { tick = packet_tick s.pending (tick_after s tick); entries = s.pending } ∷ []) in
+    record {
+      counts = rw then_is record {
+        entered = kept.counts.entered;
+        packets = omega (arith, more, kept.counts.packets);
+        first_pending = rw (sent_is, kept.counts.commands_are) refl;
+        tick = refl;
+        list_len = refl;
+        place = refl;
+        commands_are = rw (same, sent_is, append-nil) kept.counts.commands_are;
+        plays = rw same kept.counts.plays;
+        last = refl;
+        fields = refl;
+        short = omega arith;
+        few_players = kept.counts.few_players;
+        few_pending = omega arith;
       };
       joined_are = rw then_is kept.joined_are;
       few_joined = kept.few_joined;

@@ -15,6 +15,11 @@ abbrev pub timed_of : List Sent → List Timed
 timed_of [] = []
 timed_of (first ∷ others) = timed_after first.tick (first ∷ others)
 
+-- the tick of the first command, or another where there is none
+abbrev pub first_tick : ℕ → List Sent → ℕ
+first_tick other [] = other
+first_tick other (first ∷ others) = first.tick
+
 -- the tick of the last command, or another where there is none
 abbrev pub last_tick : ℕ → List Sent → ℕ
 last_tick other [] = other

@@ -3,6 +3,7 @@
 
 mod answers;
 mod book;
+mod cut;
 mod marks;
 mod participants;
 mod play;

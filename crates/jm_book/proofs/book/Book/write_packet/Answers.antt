@@ -1,0 +1,22 @@
+use Rattle.std.proofs.Common.{◌≡◌, ◌∙◌, ◌≤◌, sym, refl, length, false, true, arith}
+use Rattle.jm_wire.specs.Octets.{joined}
+use Rattle.jm_section.specs.Section.{header, list_text}
+use Rattle.jm_book.specs.Pending.{timed_of}
+use Rattle.jm_book.proofs.Listing.{length_section_header}
+use Rattle.jm_book.proofs.book.Book.write_packet.Goals as goal
+
+pub write_section_header-requires-clause-room : goal.write_section_header-requires-clause-room
+write_section_header-requires-clause-room c =
+    omega (arith, length_section_header c.list_len.result false, c.write_header.ensures.spare, c.requires)
+
+pub write_list-requires-clause-room : goal.write_list-requires-clause-room
+write_list-requires-clause-room c =
+    omega (arith, length_section_header c.list_len.result false, c.write_header.ensures.spare, c.write_section_header.ensures.spare, c.pending_commands-pending.ensures.short, c.requires)
+
+pub returns : goal.returns
+returns c =
+    let pending = c.pending_commands-pending.ensures.commands in
+    let head = rw c.next_header.ensures at c.write_header.ensures in
+    let section = rw c.list_len.ensures at c.write_section_header.ensures in
+    let list = rw pending at c.write_list.ensures in
+    joined head (joined section list)

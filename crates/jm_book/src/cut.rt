@@ -1,0 +1,129 @@
+//! Cutting packets: all pending commands become the next one.
+
+ghost use Rattle.std.specs.Prelude.{◌≡◌, ◌+◌, ◌≤◌, true, false, [], ◌∷◌, ◌++◌, length, IsTrue};
+ghost use Rattle.jm_wire.specs.Octets.{Appends};
+ghost use Rattle.jm_section.specs.Section.{list_text};
+ghost use Rattle.jm_book.specs.Book.{IsReady, Takes};
+ghost use Rattle.jm_book.specs.Session.{session_of, pending_of};
+ghost use Rattle.jm_book.specs.Pending.{timed_of, timed_after, have_fields, first_tick};
+ghost use Rattle.jm_book.specs.Packet.{packet_of, header_of};
+ghost use Rattle.jm_book.specs.Answers.{cut_answer, is_packet};
+
+use crate::answers::Cutted;
+use crate::book::Book;
+use crate::progress::Progress;
+use crate::steps::Step;
+use crate::tape::Bare;
+use jm_cmds::Sent;
+use jm_packet::{Header, write_header};
+use jm_section::{Place, write_next, write_section_header};
+use jm_wire::Octets;
+
+/// The journal names its checkpoint by 16 bits, so no packet goes out this far past it.
+const MOST_BEHIND: u64 = 32_767;
+
+/// The tick of the first of some commands, or another where there is none.
+fn first_tick(commands: &[Sent], other: u64) -> u64
+    ensures { result ≡ first_tick other commands.now }
+{
+    match commands {
+        [] => other,
+        [first, ..] => first.tick,
+    }
+}
+
+/// Appends the MIDI list of some commands.
+fn write_list(commands: &[Sent], out: &mut Octets)
+    requires fields { have_fields (timed_of commands.now) ≡ true }
+    requires room { length (list_text (timed_of commands.now)) ≤ out.old.spare }
+    ensures { Appends out.old out.new (list_text (timed_of commands.now)) }
+{
+    let mut place = Place::First;
+    let mut before = first_tick(commands, 0);
+    for one in commands {
+        let delta = one.tick.saturating_sub(before) as u32;
+        place = write_next(place, delta, &one.command, out);
+        before = one.tick;
+    }
+}
+
+impl Book {
+    /// The pending commands.
+    fn pending_commands(&self) -> &[Sent]
+        ensures commands { result.now ≡ pending_of (session_of self.now.steps) }
+        ensures fields { have_fields (timed_of result.now) ≡ true }
+        ensures short { length (list_text (timed_of result.now)) ≤ 4095 }
+    {
+        &self.tape.commands()[self.progress.first_pending..]
+    }
+
+    /// The length of their MIDI list.
+    fn list_len(&self) -> usize
+        ensures { result ≡ length (list_text (timed_of (pending_of (session_of self.now.steps)))) }
+    {
+        self.progress.list_len
+    }
+
+    /// The header of the packet of what is pending.
+    fn next_header(&self, tick: u64) -> Header
+        ensures { result ≡ header_of self.now.config (session_of self.now.steps) tick }
+    {
+        let first = first_tick(self.pending_commands(), self.tick_after(tick));
+        Header {
+            number: (self.progress.packets % 0x1_0000) as u16,
+            tick: (first % 0x1_0000_0000) as u32,
+            ssrc: self.config.ssrc,
+            marker: self.progress.list_len > 0,
+        }
+    }
+
+    /// Appends the packet of what is pending.
+    fn write_packet(&self, tick: u64, out: &mut Octets)
+        requires { 21100 ≤ out.old.spare }
+        ensures { Appends out.old out.new (packet_of self.now.config (session_of self.now.steps) tick) }
+    {
+        let pending = self.pending_commands();
+        write_header(&self.next_header(tick), out);
+        write_section_header(self.list_len(), false, out);
+        write_list(pending, out);
+    }
+
+    /// All pending commands become the next packet, whose octets are put into `out`, at most
+    /// 21,067 of them. A packet without commands has this tick, in units of 100 microseconds, or the
+    /// latest one that was taken, where that is later. A refusal leaves `out` as it was.
+    pub fn cut(&mut self, tick: u64, out: &mut Octets) -> Cutted
+        requires ready { IsReady self.old }
+        requires empty { out.old.octets ≡ [] }
+        requires room { 21100 ≤ out.old.spare }
+        ensures answer { result ≡ cut_answer self.old.config self.old.steps }
+        ensures taken { Takes self.old self.new (is_packet result) (Step.Cut tick) }
+        ensures packet { IsTrue (is_packet result) → out.new.octets ≡ packet_of self.old.config (session_of self.old.steps) tick }
+        ensures refused { is_packet result ≡ false → out.new ≡ out.old }
+    {
+        if self.is_full() {
+            return Cutted::RecordFull {
+                events: self.config.events,
+            };
+        }
+        if let Some(one) = self.joined.slowest() {
+            if self.progress.packets.saturating_sub(one.mark) >= MOST_BEHIND {
+                return Cutted::Behind {
+                    ssrc: one.ssrc,
+                    mark: one.mark,
+                };
+            }
+        }
+        self.write_packet(tick, out);
+        let number = self.progress.packets;
+        self.progress = Progress {
+            entered: self.progress.entered,
+            packets: number + 1,
+            first_pending: self.tape.commands().len(),
+            tick: self.tick_after(tick),
+            list_len: 0,
+            place: Place::First,
+        };
+        self.tape.push(Bare::Cut { tick });
+        Cutted::Packet { number }
+    }
+}
