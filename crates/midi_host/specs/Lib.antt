@@ -1,0 +1,6 @@
+pub mod Text
+pub mod Told
+pub mod Heard
+pub mod Page
+pub mod Wrote
+pub mod Ends

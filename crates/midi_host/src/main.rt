@@ -1,0 +1,8 @@
+//! The program.
+#![tactic(auto)]
+
+mod page;
+mod status;
+mod verb;
+
+fn main() {}
