@@ -1,1 +1,7 @@
 pub mod Words
+pub mod Text
+pub mod Told
+pub mod Heard
+pub mod Page
+pub mod Wrote
+pub mod Ends

@@ -1,6 +1,9 @@
-//! midi_host.
+//! The program.
 #![tactic(auto)]
 
+mod page;
+mod status;
+mod verb;
 mod words;
 
-fn main(_rt: HostRuntime) {}
+fn main() {}
