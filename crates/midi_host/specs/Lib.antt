@@ -5,3 +5,4 @@ pub mod Heard
 pub mod Page
 pub mod Wrote
 pub mod Ends
+pub mod Line
