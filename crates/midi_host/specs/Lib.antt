@@ -6,3 +6,4 @@ pub mod Page
 pub mod Wrote
 pub mod Ends
 pub mod Line
+pub mod AnswerText

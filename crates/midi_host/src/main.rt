@@ -2,6 +2,7 @@
 #![tactic(auto)]
 
 mod page;
+mod print;
 mod script;
 mod status;
 mod verb;

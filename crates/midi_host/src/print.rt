@@ -1,0 +1,150 @@
+//! The answers of a session, as they are printed.
+
+ghost use Rattle.std.specs.Prelude.{◌≡◌, ◌++◌, OnOk, decimal};
+ghost use Rattle.hex.specs.Hex.{encode_lower};
+ghost use Rattle.jm_wire.specs.Numbers.{be32};
+ghost use Rattle.midi_host.specs.AnswerText.{record_full_text, entered_text, accepted_text, refused_text, cutted_text};
+
+use itoa::Buffer;
+use jm_book::{Cutted, Entered, PlayFault};
+use std::alloc::{AllocError, Global};
+
+/// Adds a number in decimal digits.
+fn add_number(out: &mut Vec<u8>, n: u64) -> Result<(), AllocError>
+    ensures { OnOk result (out.new.items ≡ out.old.items ++ decimal n) }
+{
+    let mut buffer = Buffer::new();
+    out.extend_from_slice(buffer.format(n).as_bytes())?;
+    Ok(())
+}
+
+/// Adds octets in hexadecimal digits.
+fn add_hex(out: &mut Vec<u8>, octets: &[u8], alloc: Global) -> Result<(), AllocError>
+    ensures { OnOk result (out.new.items ≡ out.old.items ++ encode_lower octets.now) }
+{
+    let text = hex::encode(alloc, octets)?;
+    out.extend_from_slice(text.as_bytes())?;
+    Ok(())
+}
+
+/// Adds a number between two texts.
+fn add_numbered(out: &mut Vec<u8>, before: &[u8], n: u64, after: &[u8]) -> Result<(), AllocError>
+    ensures { OnOk result (out.new.items ≡ out.old.items ++ (before.now ++ decimal n ++ after.now)) }
+{
+    out.extend_from_slice(before)?;
+    add_number(out, n)?;
+    out.extend_from_slice(after)?;
+    Ok(())
+}
+
+#[tactic(auto, unfolding(crate::specs::AnswerText::record_full_text))]
+fn add_record_full(out: &mut Vec<u8>, events: u32) -> Result<(), AllocError>
+    ensures { OnOk result (out.new.items ≡ out.old.items ++ record_full_text events) }
+{
+    add_numbered(out, b"refused record-full ", u64::from(events), b"\n")?;
+    Ok(())
+}
+
+/// Adds what an entering player is answered.
+#[tactic(auto, unfolding(crate::specs::AnswerText::entered_text))]
+pub fn add_entered(out: &mut Vec<u8>, answer: Entered) -> Result<(), AllocError>
+    ensures { OnOk result (out.new.items ≡ out.old.items ++ entered_text answer) }
+{
+    match answer {
+        Entered::Player(player) => {
+            add_numbered(out, b"player ", u64::from(player), b"\n")?;
+            Ok(())
+        }
+        Entered::RecordFull { events } => {
+            add_record_full(out, events)?;
+            Ok(())
+        }
+        Entered::PlayersFull { most } => {
+            add_numbered(out, b"refused players-full ", u64::from(most), b"\n")?;
+            Ok(())
+        }
+    }
+}
+
+/// Adds what an accepted play is answered.
+#[tactic(auto, unfolding(crate::specs::AnswerText::accepted_text))]
+pub fn add_accepted(out: &mut Vec<u8>, serial: u64, kept: bool) -> Result<(), AllocError>
+    ensures { OnOk result (out.new.items ≡ out.old.items ++ accepted_text serial kept) }
+{
+    if kept {
+        add_numbered(out, b"accepted ", serial, b" kept\n")?;
+        return Ok(());
+    }
+    add_numbered(out, b"accepted ", serial, b" unkept\n")?;
+    Ok(())
+}
+
+#[tactic(auto, unfolding(crate::specs::AnswerText::refused_text))]
+fn add_needs_cut(
+    out: &mut Vec<u8>,
+    pending: usize,
+    octets: usize,
+    delta: u64,
+) -> Result<(), AllocError>
+    ensures { OnOk result (out.new.items ≡ out.old.items ++ refused_text (PlayFault.NeedsCut pending octets delta)) }
+{
+    add_numbered(out, b"refused needs-cut ", pending as u64, b" ")?;
+    add_numbered(out, b"", octets as u64, b" ")?;
+    add_numbered(out, b"", delta, b"\n")?;
+    Ok(())
+}
+
+/// Adds what a refused play is answered.
+#[tactic(auto, unfolding(crate::specs::AnswerText::refused_text))]
+pub fn add_refused(out: &mut Vec<u8>, why: PlayFault) -> Result<(), AllocError>
+    ensures { OnOk result (out.new.items ≡ out.old.items ++ refused_text why) }
+{
+    match why {
+        PlayFault::UnknownPlayer => {
+            out.extend_from_slice(b"refused unknown-player\n")?;
+            Ok(())
+        }
+        PlayFault::RecordFull { events } => {
+            add_record_full(out, events)?;
+            Ok(())
+        }
+        PlayFault::NeedsCut {
+            pending,
+            octets,
+            delta,
+        } => {
+            add_needs_cut(out, pending, octets, delta)?;
+            Ok(())
+        }
+    }
+}
+
+/// Adds what a cut is answered, which put these octets out.
+#[tactic(auto, unfolding(crate::specs::AnswerText::cutted_text))]
+pub fn add_cutted(
+    out: &mut Vec<u8>,
+    answer: Cutted,
+    octets: &[u8],
+    alloc: Global,
+) -> Result<(), AllocError>
+    ensures { OnOk result (out.new.items ≡ out.old.items ++ cutted_text answer octets.now) }
+{
+    match answer {
+        Cutted::Packet { number } => {
+            add_numbered(out, b"packet ", number, b" ")?;
+            add_hex(out, octets, alloc)?;
+            out.extend_from_slice(b"\n")?;
+            Ok(())
+        }
+        Cutted::RecordFull { events } => {
+            add_record_full(out, events)?;
+            Ok(())
+        }
+        Cutted::Behind { ssrc, mark } => {
+            out.extend_from_slice(b"refused behind ")?;
+            add_hex(out, &ssrc.to_be_bytes(), alloc)?;
+            add_numbered(out, b" ", mark, b"\n")?;
+            Ok(())
+        }
+    }
+}
