@@ -1,8 +1,10 @@
 //! The program.
 #![tactic(auto)]
 
+mod answering;
 mod page;
 mod status;
 mod verb;
+mod writing;
 
 fn main() {}
