@@ -35,3 +35,12 @@ OnReadFault status fact = ⊤
 abbrev pub OnWriteFault : Status → Type 0 → Type 0
 OnWriteFault WriteFault fact = fact
 OnWriteFault status fact = ⊤
+
+-- How the end of the input is met, where `told` is what the rest of the text is told.
+abbrev pub Finishes : Status → Told → (wrote wrote' : Option (List ℕ)) → Type 0
+Finishes Done told wrote wrote' = (told.good ≡ true) × Wrote wrote wrote' told.text
+Finishes BadScript told wrote wrote' = (told.good ≡ false) × Wrote wrote wrote' told.text
+Finishes WriteFault told wrote wrote' = WrotePart wrote wrote' told.text
+Finishes NoMemory told wrote wrote' = WrotePart wrote wrote' told.text
+Finishes Usage told wrote wrote' = ⊥
+Finishes ReadFault told wrote wrote' = ⊥

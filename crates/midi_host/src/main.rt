@@ -1,11 +1,13 @@
 //! The program.
 #![tactic(auto)]
 
+mod answering;
 mod page;
 mod print;
 mod script;
 mod status;
 mod verb;
 mod words;
+mod writing;
 
 fn main() {}
