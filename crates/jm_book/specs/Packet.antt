@@ -17,6 +17,6 @@ header_of config session tick = record {
   }
 
 -- the packet that a cut at this tick makes of what is pending
-abbrev pub packet_of : Config → Session → ℕ → List ℕ
+unfoldable pub packet_of : Config → Session → ℕ → List ℕ
 packet_of config session tick =
     header (header_of config session tick) ++ section_of (timed_of (pending_of session)) false

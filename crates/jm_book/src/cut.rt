@@ -97,7 +97,7 @@ impl Book {
         requires room { 21100 ≤ out.old.spare }
         ensures answer { result ≡ cut_answer self.old.config self.old.steps }
         ensures taken { Takes self.old self.new (is_packet result) (Step.Cut tick) }
-        ensures packet { IsTrue (is_packet result) → out.new.octets ≡ packet_of self.old.config (session_of self.old.steps) tick }
+        ensures packet { IsTrue (is_packet result) → Appends out.old out.new (packet_of self.old.config (session_of self.old.steps) tick) }
         ensures refused { is_packet result ≡ false → out.new ≡ out.old }
     {
         if self.is_full() {

@@ -7,3 +7,6 @@ pub mod Wrote
 pub mod Ends
 pub mod Line
 pub mod AnswerText
+pub mod Did
+pub mod ReplayState
+pub mod ToldBy

@@ -1,5 +1,5 @@
 -- The grammar of a script's lines.
-use Rattle.std.specs.Prelude.{ℕ, ◌+◌, ◌^◌, Bool, true, false, ◌==◌, not, if◌then◌else◌, List, [], ◌∷◌, length, Option, Some, None, Result, Ok, Err}
+use Rattle.std.specs.Prelude.{ℕ, ◌+◌, ◌^◌, ◌≤◌, Bool, true, false, ◌==◌, not, if◌then◌else◌, List, [], ◌∷◌, length, Option, Some, None, Result, Ok, Err}
 use Rattle.jm_cmds.specs.declared.verbs.Command.{Command}
 use Rattle.jm_cmds.specs.declared.verbs.Command.TheVariants.{NoteOff, NoteOn}
 use Rattle.jm_cmds.specs.declared.reading.CmdFault.{CmdFault}
@@ -80,3 +80,8 @@ abbrev pub line_of : Bool → List ℕ → Result Line LineFault
 line_of started [] = Ok line.Blank
 line_of started (c ∷ cs) =
     if c == 35 then Ok line.Blank else line_by started (keyword_of (first_word (c ∷ cs))) (other_words (c ∷ cs))
+
+-- a session line gives an allowed number of steps
+abbrev pub IsInRange : Line → Type 0
+IsInRange (line.Session ssrc events) = (1 ≤ events) × (events ≤ 4194304)
+IsInRange _ = Unit {0}

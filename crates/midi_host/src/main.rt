@@ -4,6 +4,8 @@
 mod answering;
 mod page;
 mod print;
+mod replay;
+mod room;
 mod script;
 mod status;
 mod verb;

@@ -1,9 +1,9 @@
 //! The lines of a script.
 
-ghost use Rattle.std.specs.Prelude.{◌≡◌, ◌+◌, ◌^◌, length, Option, List, option_map};
+ghost use Rattle.std.specs.Prelude.{◌≡◌, ◌+◌, ◌^◌, ◌≤◌, length, Option, List, option_map, IfOk};
 ghost use Rattle.jm_cmds.specs.Gives.{Gives};
 ghost use Rattle.jm_cmds.specs.Reading.{command_read};
-ghost use Rattle.midi_host.specs.Line.{line_of, line_by, session_line, enter_line, play_line, cut_line, whole_command, is_note};
+ghost use Rattle.midi_host.specs.Line.{line_of, line_by, session_line, enter_line, play_line, cut_line, whole_command, is_note, IsInRange};
 
 use super::words::{Keyword, hex_octets, number, read_keyword, split_word, ssrc};
 use jm_cmds::{Command, ReadError, read_command};
@@ -44,7 +44,8 @@ pub enum LineFault {
 /// `session SSRC EVENTS`: what stands behind the first word.
 #[tactic(auto, unfolding(crate::specs::Line::session_line))]
 fn read_session(rest: Option<&[u8]>) -> Result<Line, LineFault>
-    ensures { result ≡ session_line (option_map (λ r. r.now) rest.entry) }
+    ensures line { result ≡ session_line (option_map (λ r. r.now) rest.entry) }
+    ensures range { IfOk result IsInRange }
 {
     let Some(words) = rest else {
         return Err(LineFault::Form);
@@ -70,7 +71,8 @@ fn read_session(rest: Option<&[u8]>) -> Result<Line, LineFault>
 
 /// `enter`, which stands alone.
 fn read_enter(rest: Option<&[u8]>) -> Result<Line, LineFault>
-    ensures { result ≡ enter_line (option_map (λ r. r.now) rest.entry) }
+    ensures line { result ≡ enter_line (option_map (λ r. r.now) rest.entry) }
+    ensures range { IfOk result IsInRange }
 {
     match rest {
         None => Ok(Line::Enter),
@@ -81,7 +83,8 @@ fn read_enter(rest: Option<&[u8]>) -> Result<Line, LineFault>
 /// `cut TICK`: what stands behind the first word.
 #[tactic(auto, unfolding(crate::specs::Line::cut_line))]
 fn read_cut(rest: Option<&[u8]>) -> Result<Line, LineFault>
-    ensures { result ≡ cut_line (option_map (λ r. r.now) rest.entry) }
+    ensures line { result ≡ cut_line (option_map (λ r. r.now) rest.entry) }
+    ensures range { IfOk result IsInRange }
 {
     let Some(words) = rest else {
         return Err(LineFault::Form);
@@ -124,7 +127,8 @@ fn one_command(octets: &[u8], alloc: Global) -> Result<Command, ReadError<LineFa
 /// `play PLAYER TICK HEX`: what stands behind the first word.
 #[tactic(auto, unfolding(crate::specs::Line::play_line))]
 fn read_play(rest: Option<&[u8]>, alloc: Global) -> Result<Line, ReadError<LineFault>>
-    ensures { Gives result (play_line (option_map (λ r. r.now) rest.entry)) }
+    ensures line { Gives result (play_line (option_map (λ r. r.now) rest.entry)) }
+    ensures range { IfOk result IsInRange }
 {
     let Some(words) = rest else {
         return Err(ReadError::Fault(LineFault::Form));
@@ -155,7 +159,8 @@ fn read_play(rest: Option<&[u8]>, alloc: Global) -> Result<Line, ReadError<LineF
 }
 
 fn pure(line: Result<Line, LineFault>) -> Result<Line, ReadError<LineFault>>
-    ensures { Gives result line }
+    ensures line { Gives result line }
+    ensures range { IfOk line IsInRange → IfOk result IsInRange }
 {
     match line {
         Ok(line) => Ok(line),
@@ -169,7 +174,8 @@ fn read_by(
     rest: Option<&[u8]>,
     alloc: Global,
 ) -> Result<Line, ReadError<LineFault>>
-    ensures { Gives result (line_by started keyword (option_map (λ r. r.now) rest.entry)) }
+    ensures line { Gives result (line_by started keyword (option_map (λ r. r.now) rest.entry)) }
+    ensures range { IfOk result IsInRange }
 {
     let Some(keyword) = keyword else {
         return Err(ReadError::Fault(LineFault::Word));
@@ -192,7 +198,8 @@ pub fn read_line(
     started: bool,
     alloc: Global,
 ) -> Result<Line, ReadError<LineFault>>
-    ensures { Gives result (line_of started line.now) }
+    ensures line { Gives result (line_of started line.now) }
+    ensures range { IfOk result IsInRange }
 {
     match line {
         [] => Ok(Line::Blank),

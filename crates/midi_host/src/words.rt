@@ -1,6 +1,6 @@
 //! The words of a line: how they are parted, and the numbers and octets that they write.
 
-ghost use Rattle.std.specs.Prelude.{◌≡◌, ◌^◌, ◌≤◌, List, IfOk, option_map};
+ghost use Rattle.std.specs.Prelude.{◌≡◌, ◌^◌, ◌≤◌, List, IfOk, IfSome, option_map};
 ghost use Rattle.std.specs.List.{list_all};
 ghost use Rattle.std.specs.Char.{is_ascii_digit};
 ghost use Rattle.midi_host.specs.Words.{first_word, other_words, is_number, number_of, ssrc_of, hex_of, keyword_of};
@@ -29,7 +29,8 @@ pub fn split_word(line: &[u8]) -> (&[u8], Option<&[u8]>)
 /// The number that a word writes: decimal digits without a leading zero, at most `most`.
 pub fn number(word: &[u8], most: u64) -> Option<u64>
     requires { most ≤ 2 ^ 62 }
-    ensures { result ≡ number_of most word.now }
+    ensures value { result ≡ number_of most word.now }
+    ensures bound { IfSome result (λ n. n ≤ most) }
 {
     if !has_number_form(word) {
         return None;

@@ -2,6 +2,7 @@ use Rattle.std.proofs.Common.{◌≡◌, ◌∙◌, ◌≤◌, sym, refl, length
 use Rattle.jm_wire.specs.Octets.{joined}
 use Rattle.jm_section.specs.Section.{header, list_text}
 use Rattle.jm_book.specs.Pending.{timed_of}
+use Rattle.jm_book.specs.Packet.{packet_of}
 use Rattle.jm_book.proofs.Listing.{length_section_header}
 use Rattle.jm_book.proofs.book.Book.write_packet.Goals as goal
 
@@ -14,6 +15,7 @@ write_list-requires-clause-room c =
     omega (arith, length_section_header c.list_len.result false, c.write_header.ensures.spare, c.write_section_header.ensures.spare, c.pending_commands-pending.ensures.short, c.requires)
 
 pub returns : goal.returns
+unfolding packet_of
 returns c =
     let pending = c.pending_commands-pending.ensures.commands in
     let head = rw c.next_header.ensures at c.write_header.ensures in

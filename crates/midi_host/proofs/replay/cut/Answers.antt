@@ -1,0 +1,28 @@
+use Rattle.std.proofs.Common.{◌≡◌, ◌∙◌, ap, sym, refl, ℕ, List, IsTrue, true}
+use Rattle.jm_book.specs.declared.answers.Cutted.{Cutted}
+use Rattle.jm_book.specs.declared.answers.Cutted.TheVariants.{Packet, RecordFull, Behind}
+use Rattle.jm_book.specs.Answers.{cut_answer, is_packet}
+use Rattle.jm_book.specs.Packet.{packet_of}
+use Rattle.jm_book.specs.Session.{session_of}
+use Rattle.midi_host.specs.AnswerText.{cutted_text}
+use Rattle.midi_host.proofs.replay.cut.Goals as goal
+
+-- the octets count only where there is a packet
+cutted_text-same : (answer : Cutted) (octets packet : List ℕ) → (IsTrue (is_packet answer) → octets ≡ packet) → cutted_text answer octets ≡ cutted_text answer packet
+unfolding cutted_text
+cutted_text-same (Packet number) octets packet same = rw (same refl) refl
+cutted_text-same (RecordFull events) octets packet same = refl
+cutted_text-same (Behind ssrc mark) octets packet same = refl
+
+pub returns : goal.returns
+returns c =
+    let book = c.args.session.now.book in
+    let answer = cut_answer book.config book.steps in
+    let packet = packet_of book.config (session_of book.steps) c.args.tick in
+    let answer_is : c.cut-answer.result ≡ answer = rw (c.in_ok-reserve.ensures.config, c.in_ok-reserve.ensures.steps) at c.cut-answer.ensures.answer in
+    let there : IsTrue (is_packet c.cut-answer.result) → c.cut-answer.new.self ≡ packet = rw (c.in_ok-reserve.ensures.config, c.in_ok-reserve.ensures.steps) at c.cut-answer.ensures.packet in
+    record {
+      text = cutted_text answer packet;
+      lined_is = rw (c.cut-answer.ensures.taken.config, c.cut-answer.ensures.taken.steps, c.in_ok-reserve.ensures.config, c.in_ok-reserve.ensures.steps, answer_is) refl;
+      out_is = rw (← answer_is, ← cutted_text-same c.cut-answer.result c.cut-answer.new.self packet there, ← c.as_slice.ensures) c.in_ok-add_cutted.ensures;
+    }

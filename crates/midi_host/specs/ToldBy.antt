@@ -1,0 +1,59 @@
+-- What one more line is told.
+use Rattle.std.proofs.Common.{ℕ, ◌≡◌, ◌+◌, ◌<◌, ◌≤◌, ◌∙◌, refl, ap, sym, Bool, true, false, List, [], ◌∷◌, ◌++◌, length, append_assoc, arith}
+use Rattle.std.specs.Prelude.{nat_le, nat_lt}
+use Rattle.std.specs.declared.result.Result.{Result}
+use Rattle.std.specs.declared.result.Result.TheVariants.{Ok, Err}
+use Rattle.std.proofs.lemmas.Bool.Decides.{nat_tests}
+use Rattle.midi_host.specs.declared.verb.Cause.{Cause}
+use Rattle.midi_host.specs.declared.verb.Cause.TheVariants.{Lines, TooLong}
+use Rattle.midi_host.specs.declared.verb.Heard.{Heard}
+use Rattle.midi_host.specs.declared.verb.Heard.TheVariants.{Taken, Bad}
+use Rattle.midi_host.specs.declared.verb.TheConstants.{MOST_LINES}
+use Rattle.midi_host.specs.Told.{Told, Lined, taken, refused, told_by, told_none, told_bad, after, after_line, within_limits}
+use Rattle.midi_host.specs.Heard.{Hears}
+use Rattle.midi_host.specs.Did.{Did}
+
+pub told_by_nothing : {State : Type 0} (longest : ℕ) (lined : State → List ℕ → Lined State) (before : ℕ) (state : State) → told_by longest lined before state [] ≡ told_none
+unfolding told_by
+told_by_nothing longest lined before state = refl
+
+pub told_by_more : {State : Type 0} (longest : ℕ) (lined : State → List ℕ → Lined State) (before : ℕ) (state : State) (line : List ℕ) (lines : List (List ℕ))
+    → told_by longest lined before state (line ∷ lines) ≡ after_line before (within_limits longest before line (lined state line)) (λ next. told_by longest lined (before + 1) next lines)
+unfolding told_by
+told_by_more longest lined before state line lines = refl
+
+pub told_by_lines : {State : Type 0} (longest : ℕ) (lined : State → List ℕ → Lined State) (before : ℕ) (state : State) (line : List ℕ) (lines : List (List ℕ))
+    → MOST_LINES ≤ before → told_by longest lined before state (line ∷ lines) ≡ told_bad (before + 1) Lines
+told_by_lines longest lined before state line lines many =
+    let test : nat_le MOST_LINES before ≡ true = grind (arith, nat_tests) in
+    rw (told_by_more longest lined before state line lines, test) refl
+
+pub told_by_too_long : {State : Type 0} (longest : ℕ) (lined : State → List ℕ → Lined State) (before : ℕ) (state : State) (line : List ℕ) (lines : List (List ℕ))
+    → before < MOST_LINES → longest < length line → told_by longest lined before state (line ∷ lines) ≡ told_bad (before + 1) TooLong
+told_by_too_long longest lined before state line lines few long =
+    let test : nat_le MOST_LINES before ≡ false = grind (arith, nat_tests) in
+    let test' : nat_lt longest (length line) ≡ true = grind (arith, nat_tests) in
+    rw (told_by_more longest lined before state line lines, test, test') refl
+
+-- a line within the limits is told what the verb makes of it
+pub told_by_line : {State : Type 0} (longest : ℕ) (lined : State → List ℕ → Lined State) (before : ℕ) (state : State) (line : List ℕ) (lines : List (List ℕ))
+    → before < MOST_LINES → length line ≤ longest → told_by longest lined before state (line ∷ lines) ≡ after_line before (lined state line) (λ next. told_by longest lined (before + 1) next lines)
+told_by_line longest lined before state line lines few short =
+    let test : nat_le MOST_LINES before ≡ false = grind (arith, nat_tests) in
+    let test' : nat_lt longest (length line) ≡ false = grind (arith, nat_tests) in
+    rw (told_by_more longest lined before state line lines, test, test') refl
+
+-- A verb that did what it makes of a line is heard.
+pub hears : {State E : Type 0} (longest : ℕ) (lined : State → List ℕ → Lined State) (before : ℕ) (state next : State) (line out out' : List ℕ) (result : Result Heard E)
+    → before < MOST_LINES → length line ≤ longest → Did result (lined state line) next out out'
+    → Hears result before (told_by longest lined before state) (told_by longest lined (before + 1) next) line out out'
+hears longest lined before state next line out out' (Ok Taken) few short did = λ lines.
+    let told = told_by_line longest lined before state line lines few short in
+    let later = told_by longest lined (before + 1) next lines in
+    let lined_is = did.lined_is in
+    rw (told, lined_is, did.out_is)
+    (let same : out ++ (did.text ++ later.text) ≡ (out ++ did.text) ++ later.text = sym (append_assoc out did.text later.text) in
+     ap (λ text. let told : Told = record { text = text; good = later.good } in told) same)
+hears longest lined before state next line out out' (Ok (Bad cause)) few short did =
+    (did.1, λ lines. rw (told_by_line longest lined before state line lines few short, did.0) refl)
+hears longest lined before state next line out out' (Err e) few short did = tt
