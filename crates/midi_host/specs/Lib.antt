@@ -7,3 +7,4 @@ pub mod Run
 pub mod Page
 pub mod Wrote
 pub mod Ends
+pub mod Number

@@ -1,6 +1,6 @@
 -- What a verb's author proves of each line, and what the reader of lines asks.
-use Rattle.std.specs.Prelude.{◌≡◌, ℕ, ◌+◌, ◌<◌, ◌≤◌, Bool, true, false, cond, List, [], ◌∷◌, ◌++◌, length, refl, nat_le, nat_lt, ⊤}
-use Rattle.std.proofs.Common.{sym, ap, ◌∙◌, append_assoc, arith}
+use Rattle.std.specs.Prelude.{◌≡◌, ℕ, ◌+◌, ◌<◌, ◌≤◌, Bool, true, false, List, [], ◌∷◌, ◌++◌, length, refl, nat_le, nat_lt, ⊤}
+use Rattle.std.proofs.Common.{ap, ◌∙◌, append_assoc, arith}
 use Rattle.std.proofs.lemmas.Bool.Decides.{nat_tests}
 use Rattle.std.specs.declared.result.Result.{Result}
 use Rattle.std.specs.declared.result.Result.TheVariants.{Ok, Err}
@@ -77,9 +77,11 @@ bad_line_adds (refused cause') cause out out' h = h.1
 pub Hears-by : {State E : Type 0} (result : Result Heard E) (longest : ℕ) (lined : State → List ℕ → Lined State) (before : ℕ) (state state' : State) (line out out' : List ℕ) → before < MOST_LINES → length line ≤ longest → Answers result (lined state line) state' out out' → Hears result before (told_by longest lined before state) (told_by longest lined (before + 1) state') line out out'
 Hears-by (Ok Taken) longest lined before state state' line out out' h k a = λ lines.
     ap (after out) (told_by-within longest lined before state line lines h k) ∙ taken_line before (lined state line) state' out out' (λ next. told_by longest lined (before + 1) next lines) a
-Hears-by (Ok (Bad cause)) longest lined before state state' line out out' h k a =
-    (bad_line_adds (lined state line) cause out out' a, λ lines.
-        told_by-within longest lined before state line lines h k ∙ bad_line_told before (lined state line) cause out out' (λ next. told_by longest lined (before + 1) next lines) a)
+Hears-by (Ok (Bad cause)) longest lined before state state' line out out' h k a = (
+  bad_line_adds (lined state line) cause out out' a,
+  λ lines.
+      told_by-within longest lined before state line lines h k ∙ bad_line_told before (lined state line) cause out out' (λ next. told_by longest lined (before + 1) next lines) a,
+)
 Hears-by (Err e) longest lined before state state' line out out' h k a = tt
 
 -- a text without a bad line has no more lines than an input may have
@@ -106,4 +108,4 @@ told_by-few longest lined before state [] h g = omega arith
 told_by-few longest lined before state (line ∷ lines) h g =
     let below = good_before (nat_le MOST_LINES before) longest lined before state line lines refl g in
     good_later before (within_limits longest before line (lined state line)) (λ next. told_by longest lined (before + 1) next lines) (before + length (line ∷ lines) ≤ MOST_LINES)
-        (λ next e. let rest = told_by-few longest lined (before + 1) next lines (omega arith) e in omega arith) g
+    (λ next e. let rest = told_by-few longest lined (before + 1) next lines (omega arith) e in omega arith) g

@@ -1,7 +1,7 @@
 // The top call of the verbs that read lines.
-ghost use Rattle.std.specs.Prelude.{◌≡◌, ◌≢◌, ◌≤◌, ◌↔◌, [], ◌∷◌, IsTrue, codes, length};
+ghost use Rattle.std.specs.Prelude.{◌≡◌, ◌≢◌, ◌≤◌, ◌↔◌, [], ◌∷◌, IsTrue, IfSome, codes, length};
 ghost use Rattle.jm_edge.specs.Faults.{Rose};
-ghost use Rattle.midi_host.specs.Ends.{Ends, OnReadFault, OnWriteFault};
+ghost use Rattle.midi_host.specs.Ends.{Ends, OnReadFault, OnWriteFault, IsFaultless, Completes, HasFewLines};
 ghost use Rattle.midi_host.specs.Echo.{echo_answer};
 ghost use Rattle.midi_host.specs.Run.{replay_words};
 
@@ -47,6 +47,12 @@ pub fn run<S: Source, K: Sink>(
     ensures writes_counted { K.faults sink.old ≤ K.faults sink.new }
     ensures read_rose { OnReadFault result (Rose (S.faults source.old) (S.faults source.new)) }
     ensures write_rose { OnWriteFault result (Rose (K.faults sink.old) (K.faults sink.new)) }
+
+    // A run that meets no fault ends by the grammar, unless there is no memory.
+    ensures complete { words.now ≡ replay_words → IsFaultless (S.faults source.old) (S.faults source.new)
+        → IsFaultless (K.faults sink.old) (K.faults sink.new)
+        → IfSome (S.left source.old) (λ input. Completes result (echo_answer input)) }
+    ensures few_lines { IfSome (S.left source.old) (HasFewLines result) }
 {
     if !is_replay(words) {
         return Status::Usage;
