@@ -1,5 +1,5 @@
 -- Steps of the reading.
-use Rattle.std.proofs.Common.{◌≡◌, ℕ, ◌+◌, ◌<◌, Bool, true, false, ◌==◌, List, [], ◌∷◌, ◌++◌, length, refl, sym, ap, ◌∙◌, append_assoc, arith, add-one, take, drop, get_or, IsTrue, OnOk, IfOk}
+use Rattle.std.proofs.Common.{◌≡◌, ℕ, ◌+◌, ◌<◌, true, false, ◌==◌, List, [], ◌∷◌, ◌++◌, length, refl, sym, ◌∙◌, append_assoc, arith, add-one, take, drop, get_or, OnOk, IfOk}
 use Rattle.std.proofs.lemmas.List.{append-nil}
 use Rattle.std.proofs.Math.Seq.{split_at}
 use Rattle.std.specs.declared.result.Result.{Result}
@@ -8,7 +8,7 @@ use Rattle.midi_host.specs.declared.page.Page.{Page}
 use Rattle.midi_host.specs.declared.verb.Cause.{Cause}
 use Rattle.midi_host.specs.declared.verb.Flow.{Flow}
 use Rattle.midi_host.specs.declared.verb.Flow.TheVariants.{On, Stop}
-use Rattle.midi_host.specs.Text.{lines_of, has_end, is_whole, IsOfLine}
+use Rattle.midi_host.specs.Text.{lines_of, IsOfLine}
 use Rattle.midi_host.specs.Told.{Told, after, bad_line, told_bad, told_none}
 use Rattle.midi_host.specs.Page.{Goes, Stops, Fed, Ended, Closed}
 use Rattle.midi_host.proofs.TextLemmas.{lines_of-none, lines_of-line, lines_of-last, lines_of-begins, is_whole-line, is_whole-none, is_whole-append}
@@ -16,11 +16,11 @@ use Rattle.midi_host.proofs.TextLemmas.{lines_of-none, lines_of-line, lines_of-l
 -- a line came to its end
 pub Goes-line : (old new : List (List ℕ) → Told) (out out' line line' : List ℕ) → IsOfLine line → line' ≡ [] → ((lines : List (List ℕ)) → after out (old (line ∷ lines)) ≡ after out' (new lines)) → Goes old new out out' line line' (10 ∷ [])
 Goes-line old new out out' line line' h e same = record {
-    whole = line ++ 10 ∷ [];
-    split = rw (e, append-nil (line ++ 10 ∷ [])) refl;
-    ended = is_whole-line line;
-    same = λ more. rw (append_assoc line (10 ∷ []) more, lines_of-line line more h) (same (lines_of more))
-  }
+  whole = line ++ 10 ∷ [];
+  split = rw (e, append-nil (line ++ 10 ∷ [])) refl;
+  ended = is_whole-line line;
+  same = λ more. rw (append_assoc line (10 ∷ []) more, lines_of-line line more h) (same (lines_of more));
+}
 
 Stops-line : (old : List (List ℕ) → Told) (out out' line : List ℕ) → IsOfLine line → ((lines : List (List ℕ)) → after out (old (line ∷ lines)) ≡ record { text = out'; good = false }) → Stops old out out' (line ++ 10 ∷ [])
 Stops-line old out out' line h same = λ more. rw (append_assoc line (10 ∷ []) more, lines_of-line line more h) (same (lines_of more))
@@ -56,17 +56,17 @@ Goes-none old out line = record { whole = []; split = append-nil line; ended = i
 -- one piece after another
 pub Goes-next : (old mid new : List (List ℕ) → Told) (out out' out'' line line' line'' xs ys : List ℕ) → Goes old mid out out' line line' xs → Goes mid new out' out'' line' line'' ys → Goes old new out out'' line line'' (xs ++ ys)
 Goes-next old mid new out out' out'' line line' line'' xs ys f g = record {
-    whole = f.whole ++ g.whole;
-    split = rw (← append_assoc line xs ys, f.split, append_assoc f.whole line' ys, g.split, append_assoc f.whole g.whole line'') refl;
-    ended = is_whole-append f.whole g.whole f.ended g.ended;
-    same = λ more. rw (append_assoc f.whole g.whole more) (f.same (g.whole ++ more) ∙ g.same more)
-  }
+  whole = f.whole ++ g.whole;
+  split = rw (← append_assoc line xs ys, f.split, append_assoc f.whole line' ys, g.split, append_assoc f.whole g.whole line'') refl;
+  ended = is_whole-append f.whole g.whole f.ended g.ended;
+  same = λ more. rw (append_assoc f.whole g.whole more) (f.same (g.whole ++ more) ∙ g.same more);
+}
 
 -- a bad line after a piece
 pub Stops-next : (old mid : List (List ℕ) → Told) (out out' out'' line line' xs ys zs : List ℕ) → Goes old mid out out' line line' xs → Stops mid out' out'' (line' ++ ys) → Stops old out out'' (line ++ (xs ++ (ys ++ zs)))
 Stops-next old mid out out' out'' line line' xs ys zs f stops = λ more.
     let regroup : (line ++ (xs ++ (ys ++ zs))) ++ more ≡ f.whole ++ ((line' ++ ys) ++ (zs ++ more)) =
-        rw (← append_assoc line xs (ys ++ zs), f.split) (simp append_assoc refl) in
+    rw (← append_assoc line xs (ys ++ zs), f.split) (simp append_assoc refl) in
     rw regroup (f.same ((line' ++ ys) ++ (zs ++ more)) ∙ stops (zs ++ more))
 
 -- no line is left to answer

@@ -1,17 +1,20 @@
 -- How far a run has come, and how it ends.
-use Rattle.std.proofs.Common.{◌≡◌, ℕ, true, false, List, [], ◌∷◌, ◌++◌, refl, sym, ap, ◌∙◌, append_assoc, IsTrue, IfSome}
+use Rattle.std.proofs.Common.{◌≡◌, ◌≢◌, ℕ, ◌+◌, ◌<◌, ◌≤◌, length, true, false, List, [], ◌++◌, refl, ap, ◌∙◌, append_assoc, arith, IsTrue, IfSome}
 use Rattle.std.proofs.lemmas.List.{append-nil}
 use Rattle.std.specs.declared.option.Option.{Option}
 use Rattle.std.specs.declared.option.Option.TheVariants.{None, Some}
 use Rattle.std.specs.Option.{option_map}
 use Rattle.std.specs.Bool.{⊤}
+use Rattle.midi_host.specs.declared.verb.TheConstants.{MOST_LINES}
 use Rattle.midi_host.specs.declared.status.Status.{Status}
 use Rattle.midi_host.specs.declared.status.Status.TheVariants.{Done, Usage, BadScript, ReadFault, WriteFault, NoMemory}
 use Rattle.midi_host.specs.Text.{lines_of, is_whole, IsOfLine}
-use Rattle.midi_host.specs.Told.{Told, after, told_none}
+use Rattle.midi_host.specs.Told.{Told, Lined, after, told_none, told_by}
+use Rattle.midi_host.specs.ToldBy.{told_by-few}
 use Rattle.midi_host.specs.Page.{Goes, Stops}
+use Rattle.jm_edge.specs.Faults.{Rose}
 use Rattle.midi_host.specs.Wrote.{Wrote, WrotePart}
-use Rattle.midi_host.specs.Ends.{Ends, EndsAtFault, Finishes}
+use Rattle.midi_host.specs.Ends.{Ends, Finishes, OnReadFault, OnWriteFault, IsFaultless, Completes, HasFewLines}
 use Rattle.midi_host.proofs.TextLemmas.{lines_of-none, is_whole-none, is_whole-append}
 use Rattle.midi_host.proofs.WroteLemmas.{Wrote-none, Wrote-next, WrotePart-next, WrotePart-more, WrotePart-front}
 
@@ -46,14 +49,14 @@ Comes-next answer now now' line line' piece out out' None left' left'' wrote wro
 Comes-next answer now now' line line' piece out out' (Some input) None left'' wrote wrote' wrote'' c e o g w = absurd c
 Comes-next answer now now' line line' piece out out' (Some input) (Some rest) None wrote wrote' wrote'' c e o g w = cc
 Comes-next answer now now' line line' piece out out' (Some input) (Some rest) (Some rest') wrote wrote' wrote'' c e o g w = record {
-    whole = c.whole ++ g.whole;
-    text = c.text ++ out';
-    split = rw (c.split, some_same rest (piece ++ rest') e, ← append_assoc line piece rest', g.split) (simp append_assoc refl);
-    ended = is_whole-append c.whole g.whole c.ended g.ended;
-    written = Wrote-next wrote wrote' wrote'' c.text out' c.written w;
-    same = λ more. rw (append_assoc c.whole g.whole more, append_assoc c.text out' (now' (lines_of more)).text)
-        (c.same (g.whole ++ more) ∙ ap (after c.text) ((rw o at g.same) more))
-  }
+  whole = c.whole ++ g.whole;
+  text = c.text ++ out';
+  split = rw (c.split, some_same rest (piece ++ rest') e, ← append_assoc line piece rest', g.split) (simp append_assoc refl);
+  ended = is_whole-append c.whole g.whole c.ended g.ended;
+  written = Wrote-next wrote wrote' wrote'' c.text out' c.written w;
+  same = λ more. rw (append_assoc c.whole g.whole more, append_assoc c.text out' (now' (lines_of more)).text)
+      (c.same (g.whole ++ more) ∙ ap (after c.text) ((rw o at g.same) more));
+}
 
 -- What the input is told: what was written, and then what the rest is told.
 answer-rest : (answer : List ℕ → Told) (now : List (List ℕ) → Told) (line input rest : List ℕ) (wrote wrote' : Option (List ℕ)) (c : Progress answer now line input rest wrote wrote') → answer input ≡ after c.text (now (lines_of (line ++ rest)))
@@ -72,17 +75,17 @@ Ends-read answer now line None left' left'' wrote wrote' c e h none = tt
 Ends-read answer now line (Some input) None left'' wrote wrote' c e h none = absurd c
 Ends-read answer now line (Some input) (Some rest) left'' wrote wrote' c e h none =
     let told : answer c.whole ≡ record { text = c.text; good = true } =
-        rw (← append-nil c.whole) (c.same [] ∙ rw (lines_of-none, none, append-nil c.text) refl) in
+    rw (← append-nil c.whole) (c.same [] ∙ rw (lines_of-none, none, append-nil c.text) refl) in
     record {
-        whole = c.whole;
-        part = line;
-        rest = rest;
-        split = c.split;
-        ended = c.ended;
-        of_line = h;
-        left = e;
-        good = rw told refl;
-        written = rw told c.written
+      whole = c.whole;
+      part = line;
+      rest = rest;
+      split = c.split;
+      ended = c.ended;
+      of_line = h;
+      left = e;
+      good = rw told refl;
+      written = rw told c.written;
     }
 
 -- A line was bad.
@@ -113,9 +116,9 @@ Ends-part answer now now' line line' piece out out' (Some input) None left'' wro
 Ends-part answer now now' line line' piece out out' (Some input) (Some rest) None wrote wrote' wrote'' c e o g w = cc
 Ends-part answer now now' line line' piece out out' (Some input) (Some rest) (Some rest') wrote wrote' wrote'' c e o g w =
     let regroup : line ++ rest ≡ g.whole ++ (line' ++ rest') =
-        rw (some_same rest (piece ++ rest') e, ← append_assoc line piece rest', g.split) (append_assoc g.whole line' rest') in
+    rw (some_same rest (piece ++ rest') e, ← append_assoc line piece rest', g.split) (append_assoc g.whole line' rest') in
     let told : answer input ≡ after c.text (after out' (now' (lines_of (line' ++ rest')))) =
-        answer-rest answer now line input rest wrote wrote' c ∙ rw regroup (ap (after c.text) ((rw o at g.same) (line' ++ rest'))) in
+    answer-rest answer now line input rest wrote wrote' c ∙ rw regroup (ap (after c.text) ((rw o at g.same) (line' ++ rest'))) in
     rw told (WrotePart-more wrote wrote' wrote'' c.text out' (now' (lines_of (line' ++ rest'))).text c.written w)
 
 -- The source is at its end.
@@ -146,3 +149,29 @@ Ends-finish NoMemory answer now line (Some input) (Some rest) left'' wrote wrote
     rw told (WrotePart-next wrote wrote' wrote'' c.text (now (lines_of line)).text c.written f)
 Ends-finish Usage answer now line left left' left'' wrote wrote' wrote'' c e f = absurd f
 Ends-finish ReadFault answer now line left left' left'' wrote wrote' wrote'' c e f = absurd f
+
+-- no count rose where none came
+faultless_rose : (before after : ℕ) → IsFaultless before after → Rose before after → ⊥
+faultless_rose before after f r = let up : before < after = r f.below in omega (arith, f.same)
+
+-- a run that met no fault ends by the grammar
+pub Completes-from : (status : Status) (answer : List ℕ → Told) (left left' wrote wrote' : Option (List ℕ)) (reads reads' writes writes' : ℕ) → status ≢ Usage → Ends status answer left left' wrote wrote' → OnReadFault status (Rose reads reads') → OnWriteFault status (Rose writes writes') → IsFaultless reads reads' → IsFaultless writes writes' → IfSome left (λ input. Completes status (answer input))
+Completes-from status answer None left' wrote wrote' reads reads' writes writes' u e r w f g = tt
+Completes-from Done answer (Some input) left' wrote wrote' reads reads' writes writes' u e r w f g = e.1
+Completes-from BadScript answer (Some input) left' wrote wrote' reads reads' writes writes' u e r w f g = e.0
+Completes-from NoMemory answer (Some input) left' wrote wrote' reads reads' writes writes' u e r w f g = tt
+Completes-from Usage answer (Some input) left' wrote wrote' reads reads' writes writes' u e r w f g = u refl
+Completes-from ReadFault answer (Some input) left' wrote wrote' reads reads' writes writes' u e r w f g = absurd (faultless_rose reads reads' f r)
+Completes-from WriteFault answer (Some input) left' wrote wrote' reads reads' writes writes' u e r w f g = absurd (faultless_rose writes writes' g w)
+
+-- an input that is answered whole has few lines
+pub HasFewLines-from : {State : Type 0} (status : Status) (longest : ℕ) (lined : State → List ℕ → Lined State) (state : State) (left left' wrote wrote' : Option (List ℕ)) → Ends status (λ text. told_by longest lined 0 state (lines_of text)) left left' wrote wrote' → IfSome left (λ input. HasFewLines status input)
+HasFewLines-from status longest lined state None left' wrote wrote' e = tt
+HasFewLines-from Done longest lined state (Some input) left' wrote wrote' e =
+    let few : 0 + length (lines_of input) ≤ MOST_LINES = told_by-few longest lined 0 state (lines_of input) (omega arith) e.1 in
+    omega arith
+HasFewLines-from BadScript longest lined state (Some input) left' wrote wrote' e = tt
+HasFewLines-from NoMemory longest lined state (Some input) left' wrote wrote' e = tt
+HasFewLines-from Usage longest lined state (Some input) left' wrote wrote' e = tt
+HasFewLines-from ReadFault longest lined state (Some input) left' wrote wrote' e = tt
+HasFewLines-from WriteFault longest lined state (Some input) left' wrote wrote' e = tt

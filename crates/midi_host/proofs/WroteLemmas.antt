@@ -1,10 +1,9 @@
 -- Pieces of a text that are written one after another.
-use Rattle.std.proofs.Common.{◌≡◌, ℕ, ◌+◌, ◌≤◌, List, [], ◌∷◌, ◌++◌, length, take, drop, refl, sym, ap, ◌∙◌, append_assoc, arith}
+use Rattle.std.proofs.Common.{ℕ, ◌+◌, ◌≤◌, List, [], ◌++◌, length, take, drop, refl, sym, append_assoc}
 use Rattle.std.proofs.lemmas.List.{append-nil, take_all, take-append-drop}
 use Rattle.std.proofs.Math.Seq.{take-add}
 use Rattle.std.specs.declared.option.Option.{Option}
 use Rattle.std.specs.declared.option.Option.TheVariants.{None, Some}
-use Rattle.std.specs.Option.{option_map}
 use Rattle.midi_host.specs.Wrote.{Wrote, WrotePart}
 
 -- nothing was written
@@ -20,20 +19,20 @@ Wrote-next (Some text) mid new xs ys f g = rw (g, f, append_assoc text xs ys) re
 -- a text, and a front of one after it
 pub WrotePart-next : (old mid new : Option (List ℕ)) (xs ys : List ℕ) → Wrote old mid xs → WrotePart mid new ys → WrotePart old new (xs ++ ys)
 WrotePart-next old mid new xs ys f g = record {
-    front = xs ++ g.front;
-    rest = g.rest;
-    split = rw g.split (sym (append_assoc xs g.front g.rest));
-    wrote = Wrote-next old mid new xs g.front f g.wrote
-  }
+  front = xs ++ g.front;
+  rest = g.rest;
+  split = rw g.split (sym (append_assoc xs g.front g.rest));
+  wrote = Wrote-next old mid new xs g.front f g.wrote;
+}
 
 -- the same, and more that wasn't written
 pub WrotePart-more : (old mid new : Option (List ℕ)) (xs ys zs : List ℕ) → Wrote old mid xs → WrotePart mid new ys → WrotePart old new (xs ++ (ys ++ zs))
 WrotePart-more old mid new xs ys zs f g = record {
-    front = xs ++ g.front;
-    rest = g.rest ++ zs;
-    split = rw g.split (simp append_assoc refl);
-    wrote = Wrote-next old mid new xs g.front f g.wrote
-  }
+  front = xs ++ g.front;
+  rest = g.rest ++ zs;
+  split = rw g.split (simp append_assoc refl);
+  wrote = Wrote-next old mid new xs g.front f g.wrote;
+}
 
 pub WrotePart-front : (old new : Option (List ℕ)) (xs ys : List ℕ) → Wrote old new xs → WrotePart old new (xs ++ ys)
 WrotePart-front old new xs ys f = record { front = xs; rest = ys; split = refl; wrote = f }

@@ -1,8 +1,9 @@
 -- How a run ends: its status, what was read and what was written, for an input that the source tells.
-use Rattle.std.specs.Prelude.{◌≡◌, ℕ, true, false, List, [], ◌++◌, Option, Some, IfSome, IsTrue, ⊤}
+use Rattle.std.specs.Prelude.{◌≡◌, ℕ, ◌-◌, ◌^◌, ◌<◌, ◌≤◌, true, false, List, [], ◌++◌, Option, Some, IfSome, IsTrue, length, ⊤}
 use Rattle.midi_host.specs.declared.status.Status.{Status}
 use Rattle.midi_host.specs.declared.status.Status.TheVariants.{Done, Usage, BadScript, ReadFault, WriteFault, NoMemory}
-use Rattle.midi_host.specs.Text.{is_whole, IsOfLine}
+use Rattle.midi_host.specs.declared.verb.TheConstants.{MOST_LINES}
+use Rattle.midi_host.specs.Text.{lines_of, is_whole, IsOfLine}
 use Rattle.midi_host.specs.Told.{Told}
 use Rattle.midi_host.specs.Wrote.{Wrote, WrotePart}
 
@@ -44,3 +45,22 @@ Finishes WriteFault told wrote wrote' = WrotePart wrote wrote' told.text
 Finishes NoMemory told wrote wrote' = WrotePart wrote wrote' told.text
 Finishes Usage told wrote wrote' = ⊥
 Finishes ReadFault told wrote wrote' = ⊥
+
+-- a count of faults stayed, below its last value: none came
+pub record IsFaultless (before after : ℕ) : Type 0 where
+  pub below : before < 2 ^ 64 - 1
+  pub same : after ≡ before
+
+-- how a run ends where no fault came, by whether each line is in the grammar; there may have been no memory
+abbrev pub Completes : Status → Told → Type 0
+Completes Done told = told.good ≡ true
+Completes BadScript told = told.good ≡ false
+Completes NoMemory told = ⊤
+Completes Usage told = ⊥
+Completes ReadFault told = ⊥
+Completes WriteFault told = ⊥
+
+-- an input that is answered whole has no more lines than one may have
+abbrev pub HasFewLines : Status → List ℕ → Type 0
+HasFewLines Done input = length (lines_of input) ≤ MOST_LINES
+HasFewLines status input = ⊤

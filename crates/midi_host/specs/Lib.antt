@@ -2,6 +2,8 @@ pub mod Words
 pub mod Text
 pub mod Told
 pub mod Heard
+pub mod ToldBy
+pub mod Run
 pub mod Page
 pub mod Wrote
 pub mod Ends
@@ -9,4 +11,4 @@ pub mod Line
 pub mod AnswerText
 pub mod Did
 pub mod ReplayState
-pub mod ToldBy
+pub mod Number

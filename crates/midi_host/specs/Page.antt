@@ -1,5 +1,5 @@
 -- The reader of lines between two octets: what a call did to what is still to be answered.
-use Rattle.std.specs.Prelude.{◌≡◌, ℕ, ◌+◌, ◌*◌, ◌-◌, ◌<◌, ◌≤◌, true, false, List, [], ◌∷◌, ◌++◌, length, vec_len, IsTrue, ⊤}
+use Rattle.std.specs.Prelude.{◌≡◌, ℕ, ◌+◌, ◌*◌, ◌-◌, ◌≤◌, true, false, List, [], ◌∷◌, ◌++◌, vec_len, IsTrue, ⊤}
 use Rattle.std.specs.declared.result.Result.{Result}
 use Rattle.std.specs.declared.result.Result.TheVariants.{Ok, Err}
 use Rattle.midi_host.specs.declared.page.Page.{Page}
@@ -7,7 +7,7 @@ use Rattle.midi_host.specs.declared.verb.Flow.{Flow}
 use Rattle.midi_host.specs.declared.verb.Flow.TheVariants.{On, Stop}
 use Rattle.midi_host.specs.declared.verb.TheConstants.{MOST_LINES, MOST_OCTETS}
 use Rattle.midi_host.specs.Text.{lines_of, is_whole, IsOfLine}
-use Rattle.midi_host.specs.Told.{Told, after, told_none}
+use Rattle.midi_host.specs.Told.{Told, after}
 
 -- the number of lines and the line so far are within their limits, and no line ends in the line so far
 pub record IsKept (longest : ℕ) (page : Page) : Type 0 where

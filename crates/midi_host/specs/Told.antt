@@ -1,5 +1,5 @@
 -- What a script is answered: the lines of answers, up to the first line outside the grammar.
-use Rattle.std.specs.Prelude.{◌≡◌, ℕ, ◌+◌, ◌<◌, ◌≤◌, Bool, true, false, List, [], ◌∷◌, ◌++◌, length, codes, decimal, if◌then◌else◌, nat_le, nat_lt}
+use Rattle.std.specs.Prelude.{ℕ, ◌+◌, Bool, true, false, List, [], ◌∷◌, ◌++◌, length, codes, decimal, if◌then◌else◌, nat_le, nat_lt}
 use Rattle.midi_host.specs.declared.verb.Cause.{Cause}
 use Rattle.midi_host.specs.declared.verb.Cause.TheVariants.{Lines, TooLong, Word, Form, Command}
 use Rattle.midi_host.specs.declared.verb.TheConstants.{MOST_LINES}

@@ -1,10 +1,10 @@
 // The reading of a source to its end, and the writing of what it is answered.
-ghost use Rattle.std.specs.Prelude.{◌≡◌, ◌≢◌, ◌≤◌, [], OnOk, OnErr, vec_len};
+ghost use Rattle.std.specs.Prelude.{◌≡◌, ◌≢◌, ◌≤◌, [], OnOk, OnErr, IfSome, vec_len};
 ghost use Rattle.jm_edge.specs.Faults.{Rose};
 ghost use Rattle.midi_host.specs.Text.{lines_of};
 ghost use Rattle.midi_host.specs.Page.{IsKept};
 ghost use Rattle.midi_host.specs.Wrote.{Wrote, WrotePart};
-ghost use Rattle.midi_host.specs.Ends.{Ends, Finishes, OnReadFault, OnWriteFault};
+ghost use Rattle.midi_host.specs.Ends.{Ends, Finishes, OnReadFault, OnWriteFault, IsFaultless, Completes};
 
 use super::page::{Page, close, take_piece};
 use super::status::Status;
@@ -66,6 +66,9 @@ pub fn answer_lines<V: Verb, S: Source, K: Sink>(
     ensures writes_counted { K.faults sink.old ≤ K.faults sink.new }
     ensures read_rose { OnReadFault result (Rose (S.faults source.old) (S.faults source.new)) }
     ensures write_rose { OnWriteFault result (Rose (K.faults sink.old) (K.faults sink.new)) }
+    ensures complete { IsFaultless (S.faults source.old) (S.faults source.new)
+        → IsFaultless (K.faults sink.old) (K.faults sink.new)
+        → IfSome (S.left source.old) (λ input. Completes result (V.told verb.old 0 (lines_of input))) }
 {
     let mut page = Page {
         before: 0,

@@ -42,11 +42,7 @@ fn stop(page: &mut Page, cause: Cause) -> Result<Flow, AllocError>
 }
 
 // The line so far came to its end.
-fn end_line<V: Verb>(
-    verb: &mut V,
-    alloc: Global,
-    page: &mut Page,
-) -> Result<Flow, AllocError>
+fn end_line<V: Verb>(verb: &mut V, alloc: Global, page: &mut Page) -> Result<Flow, AllocError>
     requires { IsKept V.LONGEST page.old }
     ensures ended { Ended result (V.told verb.old page.old.before) (V.told verb.new page.new.before)
         page.old page.new }
@@ -112,11 +108,7 @@ pub fn take_piece<V: Verb>(
 }
 
 /// The text came to its end. A last line that lacks its end is answered too.
-pub fn close<V: Verb>(
-    verb: &mut V,
-    alloc: Global,
-    page: &mut Page,
-) -> Result<Flow, AllocError>
+pub fn close<V: Verb>(verb: &mut V, alloc: Global, page: &mut Page) -> Result<Flow, AllocError>
     requires { IsKept V.LONGEST page.old }
     ensures { Closed result (V.told verb.old page.old.before) page.old page.new }
 {

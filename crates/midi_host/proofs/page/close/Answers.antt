@@ -1,5 +1,5 @@
 -- The line so far is the last line, or there is none.
-use Rattle.std.proofs.Common.{◌≡◌, ◌<◌, ℕ, List, [], length, vec_len, arith, rules}
+use Rattle.std.proofs.Common.{◌≡◌, ◌<◌, [], length, arith}
 use Rattle.std.proofs.lemmas.Bool.Decides.{nat_tests}
 use Rattle.std.proofs.lemmas.Grind.{common_steps}
 use Rattle.midi_host.proofs.PageLemmas.{Closed-none, Closed-ended}

@@ -1,5 +1,5 @@
 -- An octet ends the line, goes past a limit, or stands at the line's end.
-use Rattle.std.proofs.Common.{◌≡◌, ◌==◌, ◌<◌, ◌≤◌, ◌+◌, List, [], ◌∷◌, ◌++◌, ℕ, length, false, arith, length-append}
+use Rattle.std.proofs.Common.{◌≡◌, ◌==◌, ◌+◌, [], ◌∷◌, ◌++◌, ℕ, false, arith, length-append}
 use Rattle.std.proofs.lemmas.Bool.Decides.{nat_tests}
 use Rattle.midi_host.specs.declared.verb.Cause.TheVariants.{Lines, TooLong}
 use Rattle.midi_host.proofs.TextLemmas.{has_end-push}
@@ -15,14 +15,14 @@ returns-then-page-eq-MOST_LINES-clause-fed g c =
     let before = c.args.page.now.before in
     let no_end : (c.args.octet == 10) ≡ false = grind (arith, nat_tests) in
     Fed-bad c.stop.result (g.V.Verb.told c.args.verb.now before) (g.V.Verb.told c.args.verb.now c.stop.new.page.before) c.args.page.now c.stop.new.page c.args.octet (before + 1) Lines c.requires.of_line no_end c.stop.ensures.ok c.stop.ensures.stop
-        (λ rest lines. g.met.V.Verb.told_lines c.args.verb.now before ((c.args.page.now.line.items ++ c.args.octet ∷ []) ++ rest) lines (omega arith))
+    (λ rest lines. g.met.V.Verb.told_lines c.args.verb.now before ((c.args.page.now.line.items ++ c.args.octet ∷ []) ++ rest) lines (omega arith))
 
 pub returns-then-len-LONGEST-clause-fed : goal.returns-then-len-LONGEST-clause-fed
 returns-then-len-LONGEST-clause-fed g c =
     let before = c.args.page.now.before in
     let no_end : (c.args.octet == 10) ≡ false = grind (arith, nat_tests) in
     Fed-bad c.stop-then-len-LONGEST.result (g.V.Verb.told c.args.verb.now before) (g.V.Verb.told c.args.verb.now c.stop-then-len-LONGEST.new.page.before) c.args.page.now c.stop-then-len-LONGEST.new.page c.args.octet (before + 1) TooLong c.requires.of_line no_end c.stop-then-len-LONGEST.ensures.ok c.stop-then-len-LONGEST.ensures.stop
-        (λ rest lines. g.met.V.Verb.told_too_long c.args.verb.now before ((c.args.page.now.line.items ++ c.args.octet ∷ []) ++ rest) lines (omega arith) (omega (arith, length-append {A = ℕ}, c.args.page.now.line.ok.0)))
+    (λ rest lines. g.met.V.Verb.told_too_long c.args.verb.now before ((c.args.page.now.line.items ++ c.args.octet ∷ []) ++ rest) lines (omega arith) (omega (arith, length-append {A = ℕ}, c.args.page.now.line.ok.0)))
 
 pub returns-clause-fed : goal.returns-clause-fed
 returns-clause-fed g c =
@@ -30,9 +30,11 @@ returns-clause-fed g c =
 
 pub returns-clause-nears : goal.returns-clause-nears
 returns-clause-nears g c =
-    let no_end : (c.args.octet == 10) ≡ false = grind (arith, nat_tests) in
-    (record {
+    let no_end : (c.args.octet == 10) ≡ false = grind (arith, nat_tests) in (
+      record {
         few = omega arith;
         short = omega arith;
-        of_line = rw c.in_ok-push.ensures.items (has_end-push c.args.page.now.line.items c.args.octet c.requires.of_line no_end)
-    }, omega (arith, g.met.V.Verb.bounded, c.in_ok-push.ensures.len, c.len.ensures, c.LONGEST.ensures))
+        of_line = rw c.in_ok-push.ensures.items (has_end-push c.args.page.now.line.items c.args.octet c.requires.of_line no_end);
+      },
+      omega (arith, g.met.V.Verb.bounded, c.in_ok-push.ensures.len, c.len.ensures, c.LONGEST.ensures),
+    )

@@ -1,7 +1,6 @@
 -- Each write adds the next piece of the text.
-use Rattle.std.proofs.Common.{◌≡◌, ◌+◌, ◌-◌, ◌++◌, ◌≤◌, List, ℕ, length, take, drop, arith}
+use Rattle.std.proofs.Common.{arith}
 use Rattle.std.proofs.lemmas.List.{take_rest}
-use Rattle.midi_host.specs.Wrote.{Wrote}
 use Rattle.midi_host.proofs.WroteLemmas.{Wrote-piece, WrotePart-take}
 use Rattle.midi_host.proofs.writing.write_all.Goals as goal
 
@@ -10,9 +9,9 @@ loop-at-preserved g c =
     let text = c.args.text.now in
     let adds = rw (take_rest text c.loop-at.at) at c.in-Took.ensures.adds in
     record {
-        within = grind (arith, c.in-Took.ensures.within, c.loop-at.invariant.within);
-        wrote = Wrote-piece _ _ _ text c.loop-at.at c.in-Took.count c.loop-at.invariant.wrote adds;
-        counted = omega (arith, c.in-Took.ensures.counted)
+      within = grind (arith, c.in-Took.ensures.within, c.loop-at.invariant.within);
+      wrote = Wrote-piece _ _ _ text c.loop-at.at c.in-Took.count c.loop-at.invariant.wrote adds;
+      counted = omega (arith, c.in-Took.ensures.counted);
     }
 
 pub returns-in-Failed-clause-err : goal.returns-in-Failed-clause-err

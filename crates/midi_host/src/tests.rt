@@ -1,0 +1,73 @@
+// Runs over memory, with faults of the source and the sink.
+use super::run::run;
+use super::status::Status;
+use super::word::Word;
+use jm_edge::{MemSink, MemSource};
+use std::alloc::Global;
+use std::test::Fail;
+
+// The status of a run of `replay`, and whether it wrote this text.
+fn runs(
+    alloc: Global,
+    input: &[u8],
+    reads: &[u64],
+    writes: &[u64],
+    text: &[u8],
+) -> Result<(Status, bool), Fail> {
+    let words = [Word::new(alloc, "replay")?];
+    let mut source = MemSource::new(alloc, input, reads)?;
+    let mut sink = MemSink::new(alloc, 512, writes)?;
+    let status = run(alloc, &words, &mut source, &mut sink);
+    Ok((status, sink.as_slice() == text))
+}
+
+/// One player, one note, two packets.
+const FIRST_NOTE: &[u8] = b"session 11223344 4194304\nenter\nplay 0 100 903c64\ncut 100\ncut 200";
+
+#[test]
+fn no_lines_have_no_answers(rt: HostRuntime) -> Result<(), Fail> {
+    assert_eq!(rt; runs(rt.alloc(), b"", &[], &[], b"")?, (Status::Done, true));
+    Ok(())
+}
+
+#[test]
+fn first_note_becomes_a_packet(rt: HostRuntime) -> Result<(), Fail> {
+    let text = b"session\nplayer 0\naccepted 0 kept\npacket 0 80e10000000000641122334403903c64\npacket 1 80610001000000c81122334400\n";
+    assert_eq!(rt;
+        runs(rt.alloc(), FIRST_NOTE, &[], &[], text)?,
+        (Status::Done, true)
+    );
+    Ok(())
+}
+
+#[test]
+fn faults_have_their_statuses(rt: HostRuntime) -> Result<(), Fail> {
+    assert_eq!(rt;
+        runs(rt.alloc(), FIRST_NOTE, &[1], &[], b"session\nplayer 0\naccepted 0 kept\npacket 0 80e10000000000641122334403903c64\n")?,
+        (Status::ReadFault, true)
+    );
+    assert_eq!(rt;
+        runs(rt.alloc(), FIRST_NOTE, &[], &[0], b"")?,
+        (Status::WriteFault, true)
+    );
+    assert_eq!(rt;
+        runs(rt.alloc(), b"session 11223344 9\ncut 1 2\n", &[], &[], b"session\nbad-script 2 form\n")?,
+        (Status::BadScript, true)
+    );
+    Ok(())
+}
+
+#[test]
+fn other_words_are_refused(rt: HostRuntime) -> Result<(), Fail> {
+    let words = [
+        Word::new(rt.alloc(), "replay")?,
+        Word::new(rt.alloc(), "x")?,
+    ];
+    let mut source = MemSource::new(rt.alloc(), b"a\n", &[])?;
+    let mut sink = MemSink::new(rt.alloc(), 64, &[])?;
+    assert_eq!(rt;
+        run(rt.alloc(), &words, &mut source, &mut sink),
+        Status::Usage
+    );
+    Ok(())
+}
