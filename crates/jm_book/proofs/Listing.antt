@@ -1,10 +1,9 @@
 -- One more pending command: its place in the plain list, and what it adds to the MIDI list.
-use Rattle.std.proofs.Common.{ℕ, ◌≡◌, ◌+◌, ◌-◌, ◌<◌, ◌≤◌, ◌^◌, ◌∙◌, refl, ap, sym, Bool, true, false, List, [], ◌∷◌, ◌++◌, length, arith, length-append, append_assoc}
+use Rattle.std.proofs.Common.{ℕ, ◌≡◌, ◌+◌, ◌-◌, ◌<◌, ◌≤◌, ◌^◌, refl, ap, sym, Bool, true, false, List, [], ◌∷◌, ◌++◌, length, arith, append_assoc}
 use Rattle.std.proofs.lemmas.List.{append-nil}
 use Rattle.std.proofs.lemmas.Bool.Decides.{nat_tests}
-use Rattle.std.specs.Prelude.{nat_lt, ◌&&◌}
+use Rattle.std.specs.Prelude.{nat_lt}
 use Rattle.jm_book.proofs.Tests.{and_true}
-use Rattle.jm_cmds.specs.declared.verbs.Command.{Command}
 use Rattle.jm_cmds.specs.declared.sent.Sent.{Sent}
 use Rattle.jm_section.specs.declared.next.Place.{Place}
 use Rattle.jm_section.specs.declared.next.Place.TheVariants.{First}
@@ -13,7 +12,7 @@ use Rattle.std.specs.Prelude.{if◌then◌else◌}
 use Rattle.jm_section.specs.Section.{header as section_header}
 use Rattle.jm_section.specs.Section.{Timed, piece, pieces, place_after, list_text}
 use Rattle.jm_book.specs.Pending.{timed_after, timed_of, first_tick, last_tick, place_through, have_fields}
-use Rattle.jm_book.specs.Session.{Entry, Packet, Session, packet_tick, as_sent, sent_from, sent_of, pending_of}
+use Rattle.jm_book.specs.Session.{Entry, Packet, packet_tick, as_sent, sent_from}
 
 pub as_sent_push : (packet : ℕ) (entries : List Entry) (one : Entry) → as_sent packet (entries ++ one ∷ []) ≡ as_sent packet entries ++ record { packet = packet; tick = one.tick; command = one.command } ∷ []
 as_sent_push packet [] one = refl
@@ -73,6 +72,6 @@ packet_tick_is packet tick (first ∷ others) = refl
 pub length_section_header : (len : ℕ) (journal : Bool) → length (section_header len journal) ≤ 2
 unfolding section_header
 length_section_header len journal = elim (nat_lt len 16) as (λ b. length (if b then ((if journal then 0x40 else 0) + len) ∷ [] else ((0x80 + (if journal then 0x40 else 0) + len / 256) ∷ (len % 256) ∷ [])) ≤ 2) [
-    true ↦ omega arith
+  | true ↦ omega arith
   | false ↦ omega arith
-  ]
+]

@@ -1,6 +1,5 @@
 -- One more step, and what the fields of a book then stand for.
-use Rattle.std.proofs.Common.{ℕ, ◌≡◌, ◌+◌, ◌<◌, ◌≤◌, ◌∙◌, refl, ap, sym, List, [], ◌∷◌, ◌++◌, length, Option, Some, arith, length-append}
-use Rattle.std.specs.Prelude.{fold}
+use Rattle.std.proofs.Common.{ℕ, ◌≡◌, ◌+◌, ◌<◌, ◌≤◌, refl, List, [], ◌∷◌, ◌++◌, length, Some, arith, length-append}
 use Rattle.std.proofs.lemmas.List.Sums.{fold-append}
 use Rattle.jm_book.specs.declared.steps.Config.{Config}
 use Rattle.jm_book.specs.declared.steps.Step.{Step}
@@ -9,15 +8,15 @@ use Rattle.jm_book.specs.declared.participants.Participant.{Participant}
 use Rattle.jm_book.specs.declared.progress.Progress.{Progress}
 use Rattle.jm_book.specs.Tape.{Taped}
 use Rattle.jm_book.specs.Session.{Session, session_of, after, nothing, find_joined, moved, distance, length_moved, length_as_sent}
-use Rattle.jm_book.specs.Kept.{Counts, IsKept}
-use Rattle.std.proofs.Common.{◌-◌, ◌^◌, Bool, true, false, max, append_assoc}
+use Rattle.jm_book.specs.Kept.{IsKept}
+use Rattle.std.proofs.Common.{◌-◌, ◌^◌, false, append_assoc}
 use Rattle.std.specs.Prelude.{nat_le, nat_lt, ◌||◌}
 use Rattle.std.proofs.lemmas.Bool.Decides.{nat_tests}
 use Rattle.jm_cmds.specs.declared.verbs.Command.{Command}
 use Rattle.jm_cmds.specs.declared.sent.Sent.{Sent}
 use Rattle.jm_section.specs.declared.next.Place.TheVariants.{First}
-use Rattle.jm_section.specs.Section.{Timed, place_after, list_text}
-use Rattle.jm_book.specs.Pending.{timed_of, last_tick, have_fields, place_through}
+use Rattle.jm_section.specs.Section.{Timed, place_after}
+use Rattle.jm_book.specs.Pending.{timed_of, last_tick}
 use Rattle.jm_book.specs.Session.{sent_of, pending_of, tick_after, packet_tick}
 use Rattle.std.proofs.lemmas.List.{append-nil}
 use Rattle.jm_book.specs.Answers.{needs_cut, list_with, delta_with}
@@ -40,7 +39,7 @@ kept_ack config tape tape' joined joined' progress ssrc seq one kept found is_mo
     let s = session_of tape.steps in
     let found_there : find_joined ssrc s.joined ≡ Some one = rw (← kept.joined_are) found in
     let then_is : session_of tape'.steps ≡ record s { joined = joined' } =
-        rw (stepped, session_push, found_there, is_moved, kept.joined_are) refl in
+    rw (stepped, session_push, found_there, is_moved, kept.joined_are) refl in
     let longer : length tape'.steps ≡ length tape.steps + 1 = rw stepped (length-append tape.steps (Ack ssrc seq ∷ [])) in
     let few : length joined' ≡ length joined = rw is_moved (length_moved ssrc (one.mark + distance one.mark seq) joined) in
     record {
@@ -79,10 +78,10 @@ pub kept_play : (config : Config) (tape tape' : Taped) (joined : List Participan
     → tape'.steps ≡ tape.steps ++ Play player command tick ∷ []
     → tape'.commands ≡ tape.commands ++ record { packet = progress.packets; tick = tick_after (session_of tape.steps) tick; command = command } ∷ []
     → IsKept config tape' joined record progress {
-        tick = tick_after (session_of tape.steps) tick;
-        list_len = list_with (session_of tape.steps) command tick;
-        place = place_after progress.place command
-      }
+      tick = tick_after (session_of tape.steps) tick;
+      list_len = list_with (session_of tape.steps) command tick;
+      place = place_after progress.place command;
+    }
 kept_play config tape tape' joined progress player tick command kept fits room stepped taken =
     let s = session_of tape.steps in
     let one : Sent = record { packet = length s.packets; tick = tick_after s tick; command = command } in
@@ -133,13 +132,13 @@ pub kept_cut : (config : Config) (tape tape' : Taped) (joined : List Participant
     → tape'.steps ≡ tape.steps ++ Cut tick ∷ []
     → tape'.commands ≡ tape.commands
     → IsKept config tape' joined record {
-        entered = progress.entered;
-        packets = progress.packets + 1;
-        first_pending = length tape.commands;
-        tick = tick_after (session_of tape.steps) tick;
-        list_len = 0;
-        place = First
-      }
+      entered = progress.entered;
+      packets = progress.packets + 1;
+      first_pending = length tape.commands;
+      tick = tick_after (session_of tape.steps) tick;
+      list_len = 0;
+      place = First;
+    }
 kept_cut config tape tape' joined progress tick kept room stepped same =
     let s = session_of tape.steps in
     let then_is : session_of tape'.steps ≡ after s (Cut tick) = rw (stepped, session_push) refl in

@@ -10,11 +10,11 @@ use Rattle.jm_book.specs.Pending.{timed_of}
 -- the header: the marker says that there is a MIDI list
 abbrev pub header_of : Config → Session → ℕ → Header
 header_of config session tick = record {
-    number = length session.packets % 65536;
-    tick = packet_tick session.pending (tick_after session tick) % 2 ^ 32;
-    ssrc = config.ssrc;
-    marker = nat_lt 0 (length (list_text (timed_of (pending_of session))))
-  }
+  number = length session.packets % 65536;
+  tick = packet_tick session.pending (tick_after session tick) % 2 ^ 32;
+  ssrc = config.ssrc;
+  marker = nat_lt 0 (length (list_text (timed_of (pending_of session))));
+}
 
 -- the packet that a cut at this tick makes of what is pending
 unfoldable pub packet_of : Config → Session → ℕ → List ℕ

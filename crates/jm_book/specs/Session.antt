@@ -1,5 +1,5 @@
 -- The session after a list of steps: one fold, in the words of players, packets and participants.
-use Rattle.std.specs.Prelude.{ℕ, zero, suc, ◌+◌, ◌-◌, ◌*◌, ◌%◌, ◌≡◌, Bool, true, false, ◌==◌, ◌||◌, not, max, min, if◌then◌else◌, nat_lt, nat_le, List, [], ◌∷◌, ◌++◌, length, map, fold, Option, Some, None}
+use Rattle.std.specs.Prelude.{ℕ, zero, suc, ◌+◌, ◌-◌, ◌%◌, ◌≡◌, Bool, true, false, ◌==◌, max, if◌then◌else◌, nat_lt, List, [], ◌∷◌, ◌++◌, length, fold, Option, Some, None}
 use Rattle.std.specs.List.{list_any}
 use Rattle.std.proofs.Common.{refl, arith}
 use Rattle.jm_cmds.specs.declared.verbs.Command.{Command}
@@ -89,19 +89,19 @@ acknowledged session ssrc seq (Some one) =
 abbrev pub after : Session → Step → Session
 after session Enter = record session { entered = session.entered + 1 }
 after session (Play player command tick) = record session {
-    pending = session.pending ++ record { player = player; serial = session.plays; tick = tick_after session tick; command = command } ∷ [];
-    plays = session.plays + 1;
-    tick = tick_after session tick
-  }
+  pending = session.pending ++ record { player = player; serial = session.plays; tick = tick_after session tick; command = command } ∷ [];
+  plays = session.plays + 1;
+  tick = tick_after session tick;
+}
 after session (Cut tick) = record session {
-    packets = session.packets ++ record { tick = packet_tick session.pending (tick_after session tick); entries = session.pending } ∷ [];
-    pending = [];
-    tick = tick_after session tick
-  }
+  packets = session.packets ++ record { tick = packet_tick session.pending (tick_after session tick); entries = session.pending } ∷ [];
+  pending = [];
+  tick = tick_after session tick;
+}
 after session (Ack ssrc seq) = acknowledged session ssrc seq (find_joined ssrc session.joined)
 after session (Join ssrc) = record session {
-    joined = session.joined ++ record { ssrc = ssrc; mark = last_sent session; slot = free_slot session.joined } ∷ []
-  }
+  joined = session.joined ++ record { ssrc = ssrc; mark = last_sent session; slot = free_slot session.joined } ∷ [];
+}
 
 -- the session after a list of steps
 abbrev pub session_of : List Step → Session
@@ -158,9 +158,9 @@ free_from_none joined slot = refl
 pub length_moved : (ssrc mark : ℕ) (joined : List Participant) → length (moved ssrc mark joined) ≡ length joined
 length_moved ssrc mark [] = refl
 length_moved ssrc mark (one ∷ others) = elim (one.ssrc == ssrc) as (λ b. length (if b then record one { mark = mark } ∷ others else one ∷ moved ssrc mark others) ≡ length (one ∷ others)) [
-    true ↦ refl
+  | true ↦ refl
   | false ↦ omega (arith, length_moved ssrc mark others)
-  ]
+]
 
 pub length_as_sent : (packet : ℕ) (entries : List Entry) → length (as_sent packet entries) ≡ length entries
 length_as_sent packet [] = refl

@@ -43,7 +43,7 @@ abbrev pub taped : List Mark → List Sent → ℕ → ℕ → ℕ → Taped
 taped marks commands mark_room command_room step_room = record {
   steps = woven marks commands;
   commands = commands;
-  spare = min (mark_room - length marks) (min (command_room - length commands) (step_room - length marks))
+  spare = min (mark_room - length marks) (min (command_room - length commands) (step_room - length marks));
 }
 
 -- each play has its command, and there is room to hand the steps out

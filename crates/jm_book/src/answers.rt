@@ -29,10 +29,16 @@ pub enum PlayFault {
     /// No local player of this number entered, and no joined participant has it.
     UnknownPlayer,
     /// The tape has as many steps as the session was made for.
-    RecordFull { events: u32 },
+    RecordFull {
+        events: u32,
+    },
     /// 256 commands are pending; or with this command the MIDI list would have `octets` octets,
     /// more than 4,095; or `delta`, its distance from the command before it, is over 0x0FFFFFFF.
-    NeedsCut { pending: usize, octets: usize, delta: u64 },
+    NeedsCut {
+        pending: usize,
+        octets: usize,
+        delta: u64,
+    },
 }
 
 /// What [`crate::Book::cut`] answers.

@@ -17,7 +17,6 @@ use std::marker::Model;
 /// How many local players may enter.
 pub(crate) const MOST_PLAYERS: u8 = 64;
 
-
 /// One session: its configuration and the list of the steps that were taken.
 #[derive(Debug, Drop)]
 pub struct Book {

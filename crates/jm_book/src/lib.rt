@@ -11,7 +11,7 @@ mod progress;
 mod steps;
 mod tape;
 
-pub use book::Book;
 pub use answers::{Acked, Cutted, Entered, Joined, PlayFault, Played};
+pub use book::Book;
 pub use participants::Participant;
 pub use steps::{Config, Step};

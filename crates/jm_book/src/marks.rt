@@ -72,7 +72,11 @@ impl Book {
         }
         let packets = self.progress.packets;
         if packets.saturating_sub(one.mark) <= past {
-            let last = if packets == 0 { None } else { Some(packets - 1) };
+            let last = if packets == 0 {
+                None
+            } else {
+                Some(packets - 1)
+            };
             return Acked::NotSent { last };
         }
         Acked::Moved {

@@ -114,7 +114,15 @@ impl Book {
         self.progress.place = self.progress.place.after(&command);
         self.progress.tick = latest;
         let packet = self.progress.packets;
-        self.tape.push_play(player, tick, Sent { packet, tick: latest, command });
+        self.tape.push_play(
+            player,
+            tick,
+            Sent {
+                packet,
+                tick: latest,
+                command,
+            },
+        );
         Played::Accepted { serial, kept }
     }
 }

@@ -17,11 +17,22 @@ pub enum Step {
     /// A local player entered.
     Enter,
     /// A player's command, at the tick that the player gave, in units of 100 microseconds.
-    Play { player: u8, command: Command, tick: u64 },
+    Play {
+        player: u8,
+        command: Command,
+        tick: u64,
+    },
     /// All pending commands became the next packet, at the tick that the sender gave.
-    Cut { tick: u64 },
+    Cut {
+        tick: u64,
+    },
     /// The participant reported the low 16 bits of the last packet that it received.
-    Ack { ssrc: u32, seq: u16 },
+    Ack {
+        ssrc: u32,
+        seq: u16,
+    },
     /// A participant joined.
-    Join { ssrc: u32 },
+    Join {
+        ssrc: u32,
+    },
 }

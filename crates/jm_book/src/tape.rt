@@ -119,15 +119,29 @@ impl Tape {
     pub(crate) fn finish(self) -> Vec<Step>
         ensures { result.items ≡ self.steps }
     {
-        let Tape { marks, commands, mut steps } = self;
+        let Tape {
+            marks,
+            commands,
+            mut steps,
+        } = self;
         let mut left = commands.into_iter();
         for mark in &marks {
             match *mark {
                 Mark::Other(bare) => steps.push_reserved(bare.step()),
                 Mark::Play { player, tick } => {
-                    let Some(sent) = left.next() else { unreachable!() };
-                    let Sent { packet: _, tick: _, command } = sent;
-                    steps.push_reserved(Step::Play { player, command, tick });
+                    let Some(sent) = left.next() else {
+                        unreachable!()
+                    };
+                    let Sent {
+                        packet: _,
+                        tick: _,
+                        command,
+                    } = sent;
+                    steps.push_reserved(Step::Play {
+                        player,
+                        command,
+                        tick,
+                    });
                 }
             }
         }

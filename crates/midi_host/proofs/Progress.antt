@@ -10,7 +10,7 @@ use Rattle.midi_host.specs.declared.status.Status.{Status}
 use Rattle.midi_host.specs.declared.status.Status.TheVariants.{Done, Usage, BadScript, ReadFault, WriteFault, NoMemory}
 use Rattle.midi_host.specs.Text.{lines_of, is_whole, IsOfLine}
 use Rattle.midi_host.specs.Told.{Told, Lined, after, told_none, told_by}
-use Rattle.midi_host.specs.ToldBy.{told_by-few}
+use Rattle.midi_host.specs.ToldBy.{told_by_few}
 use Rattle.midi_host.specs.Page.{Goes, Stops}
 use Rattle.jm_edge.specs.Faults.{Rose}
 use Rattle.midi_host.specs.Wrote.{Wrote, WrotePart}
@@ -168,7 +168,7 @@ Completes-from WriteFault answer (Some input) left' wrote wrote' reads reads' wr
 pub HasFewLines-from : {State : Type 0} (status : Status) (longest : ℕ) (lined : State → List ℕ → Lined State) (state : State) (left left' wrote wrote' : Option (List ℕ)) → Ends status (λ text. told_by longest lined 0 state (lines_of text)) left left' wrote wrote' → IfSome left (λ input. HasFewLines status input)
 HasFewLines-from status longest lined state None left' wrote wrote' e = tt
 HasFewLines-from Done longest lined state (Some input) left' wrote wrote' e =
-    let few : 0 + length (lines_of input) ≤ MOST_LINES = told_by-few longest lined 0 state (lines_of input) (omega arith) e.1 in
+    let few : 0 + length (lines_of input) ≤ MOST_LINES = told_by_few longest lined 0 state (lines_of input) (omega arith) e.1 in
     omega arith
 HasFewLines-from BadScript longest lined state (Some input) left' wrote wrote' e = tt
 HasFewLines-from NoMemory longest lined state (Some input) left' wrote wrote' e = tt

@@ -103,12 +103,7 @@ fn cut(
 
 impl Replay {
     /// The answer of a line that is in the grammar.
-    fn answer(
-        &mut self,
-        line: Line,
-        alloc: Global,
-        out: &mut Vec<u8>,
-    ) -> Result<Heard, AllocError>
+    fn answer(&mut self, line: Line, alloc: Global, out: &mut Vec<u8>) -> Result<Heard, AllocError>
         requires { IsInRange line }
         ensures { Did result (answered (state_of self.old.session) line) (state_of self.new.session) out.old.items out.new.items }
     {

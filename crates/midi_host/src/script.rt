@@ -21,13 +21,22 @@ pub enum Line {
     /// An empty line or a comment, which has no answer.
     Blank,
     /// `session SSRC EVENTS`.
-    Session { ssrc: u32, events: u32 },
+    Session {
+        ssrc: u32,
+        events: u32,
+    },
     /// `enter`.
     Enter,
     /// `play PLAYER TICK HEX`.
-    Play { player: u8, tick: u64, command: Command },
+    Play {
+        player: u8,
+        tick: u64,
+        command: Command,
+    },
     /// `cut TICK`.
-    Cut { tick: u64 },
+    Cut {
+        tick: u64,
+    },
 }
 
 /// Why a line is outside the grammar, in the order in which the causes are looked for.
@@ -193,11 +202,7 @@ fn read_by(
 
 /// What a line says. `started` tells whether a session line was taken before. The first of the
 /// faults that holds is told.
-pub fn read_line(
-    line: &[u8],
-    started: bool,
-    alloc: Global,
-) -> Result<Line, ReadError<LineFault>>
+pub fn read_line(line: &[u8], started: bool, alloc: Global) -> Result<Line, ReadError<LineFault>>
     ensures line { Gives result (line_of started line.now) }
     ensures range { IfOk result IsInRange }
 {

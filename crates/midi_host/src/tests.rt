@@ -32,7 +32,8 @@ fn no_lines_have_no_answers(rt: HostRuntime) -> Result<(), Fail> {
 
 #[test]
 fn first_note_becomes_a_packet(rt: HostRuntime) -> Result<(), Fail> {
-    let text = b"session\nplayer 0\naccepted 0 kept\npacket 0 80e10000000000641122334403903c64\npacket 1 80610001000000c81122334400\n";
+    let text =
+        b"session\nplayer 0\naccepted 0 kept\npacket 0 80e10000000000641122334403903c64\npacket 1 80610001000000c81122334400\n";
     assert_eq!(rt;
         runs(rt.alloc(), FIRST_NOTE, &[], &[], text)?,
         (Status::Done, true)
@@ -43,7 +44,13 @@ fn first_note_becomes_a_packet(rt: HostRuntime) -> Result<(), Fail> {
 #[test]
 fn faults_have_their_statuses(rt: HostRuntime) -> Result<(), Fail> {
     assert_eq!(rt;
-        runs(rt.alloc(), FIRST_NOTE, &[1], &[], b"session\nplayer 0\naccepted 0 kept\npacket 0 80e10000000000641122334403903c64\n")?,
+        runs(
+            rt.alloc(),
+            FIRST_NOTE,
+            &[1],
+            &[],
+            b"session\nplayer 0\naccepted 0 kept\npacket 0 80e10000000000641122334403903c64\n"
+        )?,
         (Status::ReadFault, true)
     );
     assert_eq!(rt;
@@ -51,7 +58,13 @@ fn faults_have_their_statuses(rt: HostRuntime) -> Result<(), Fail> {
         (Status::WriteFault, true)
     );
     assert_eq!(rt;
-        runs(rt.alloc(), b"session 11223344 9\ncut 1 2\n", &[], &[], b"session\nbad-script 2 form\n")?,
+        runs(
+            rt.alloc(),
+            b"session 11223344 9\ncut 1 2\n",
+            &[],
+            &[],
+            b"session\nbad-script 2 form\n"
+        )?,
         (Status::BadScript, true)
     );
     Ok(())

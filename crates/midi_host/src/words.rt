@@ -5,11 +5,8 @@ ghost use Rattle.std.specs.List.{list_all};
 ghost use Rattle.std.specs.Char.{is_ascii_digit};
 ghost use Rattle.midi_host.specs.Words.{first_word, other_words, is_number, number_of, ssrc_of, hex_of, keyword_of};
 
-use std::alloc::{AllocError, Global};
-
 use hex::FromHexError;
-
-
+use std::alloc::{AllocError, Global};
 
 const SPACE: u8 = b' ';
 

@@ -1,4 +1,4 @@
-use Rattle.std.proofs.Common.{◌≡◌, ◌∙◌, ap, sym, refl, ℕ, List, IsTrue, true}
+use Rattle.std.proofs.Common.{◌≡◌, refl, ℕ, List, IsTrue}
 use Rattle.jm_book.specs.declared.answers.Cutted.{Cutted}
 use Rattle.jm_book.specs.declared.answers.Cutted.TheVariants.{Packet, RecordFull, Behind}
 use Rattle.jm_book.specs.Answers.{cut_answer, is_packet}

@@ -1,4 +1,4 @@
-use Rattle.std.proofs.Common.{◌≡◌, ℕ, ◌+◌, ◌*◌, ◌/◌, ◌<◌, ◌≤◌, List, [], ◌∷◌, length, length-drop, drop, arith}
+use Rattle.std.proofs.Common.{ℕ, ◌+◌, ◌*◌, ◌/◌, ◌<◌, ◌≤◌, List, [], ◌∷◌, length, length-drop, drop, arith}
 use Rattle.std.proofs.lemmas.Bool.Decides.{nat_tests}
 use Rattle.std.specs.Char.{digit_value}
 use Rattle.std.specs.Str.Parse.{digits_value, digits_value_after}
@@ -17,5 +17,5 @@ digits_value_after-past n most (c ∷ cs) some past = omega (arith, digits_value
 pub returns-then-value-most : goal.returns-then-value-most
 returns-then-value-most c =
     let over : c.args.most < digits_value 10 c.args.word.now =
-        rw c.loop-digit.invariant.value at (digits_value_after-past c.loop-digit.value c.args.most (drop c.loop-digit.digit-index c.args.word.now) (simp length-drop (omega arith)) c.if-value-most.true) in
+    rw c.loop-digit.invariant.value at (digits_value_after-past c.loop-digit.value c.args.most (drop c.loop-digit.digit-index c.args.word.now) (simp length-drop (omega arith)) c.if-value-most.true) in
     grind (arith, nat_tests)

@@ -4,6 +4,6 @@ use Rattle.midi_host.proofs.words.split_word.Given as goal
 
 abbrev pub invariant-loop-i : goal.invariant-loop-i
 invariant-loop-i l = record {
-    first : first_word l.line ≡ take l.i l.line ++ first_word (drop l.i l.line);
-    rest : other_words l.line ≡ other_words (drop l.i l.line)
+  first : first_word l.line ≡ take l.i l.line ++ first_word (drop l.i l.line);
+  rest : other_words l.line ≡ other_words (drop l.i l.line);
 }

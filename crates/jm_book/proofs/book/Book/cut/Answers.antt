@@ -1,6 +1,5 @@
-use Rattle.std.proofs.Common.{◌≡◌, ◌∙◌, sym, ◌<◌, length, arith}
+use Rattle.std.proofs.Common.{◌<◌, length, arith}
 use Rattle.std.proofs.lemmas.Bool.Decides.{nat_tests}
-use Rattle.jm_book.specs.Session.{session_of}
 use Rattle.jm_book.proofs.OneMore.{kept_cut}
 use Rattle.jm_book.proofs.book.Book.cut.Goals as goal
 
@@ -12,4 +11,4 @@ invariant_of-self c =
     let room : length tape.steps < config.events = grind (arith, nat_tests) in
     rw (latest, c.commands.ensures)
     (kept_cut config tape c.push.new.self c.self.inside.joined c.self.inside.progress c.args.tick
-     c.self.invariant room c.push.ensures.steps.steps c.push.ensures.commands)
+    c.self.invariant room c.push.ensures.steps.steps c.push.ensures.commands)

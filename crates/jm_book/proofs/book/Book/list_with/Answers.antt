@@ -1,5 +1,5 @@
-use Rattle.std.proofs.Common.{◌≡◌, ◌∙◌, sym, refl, ◌<◌, length, arith, length-append}
-use Rattle.jm_book.specs.Session.{session_of, pending_of, tick_after}
+use Rattle.std.proofs.Common.{arith, length-append}
+use Rattle.jm_book.specs.Session.{session_of}
 use Rattle.jm_book.proofs.Listing.{list_text_push}
 use Rattle.jm_book.proofs.book.Book.list_with.Goals as goal
 

@@ -1,9 +1,6 @@
-use Rattle.std.proofs.Common.{◌≡◌, ◌∙◌, sym, ap, refl, drop, take, length, List, arith}
+use Rattle.std.proofs.Common.{refl, arith}
 use Rattle.std.proofs.lemmas.List.{take_rest}
 use Rattle.std.proofs.Math.Seq.{drop-append_seam}
-use Rattle.jm_cmds.specs.declared.sent.Sent.{Sent}
-use Rattle.jm_section.specs.Section.{list_text}
-use Rattle.jm_book.specs.Pending.{timed_of, have_fields}
 use Rattle.jm_book.specs.Session.{session_of, sent_of, pending_of}
 use Rattle.jm_book.proofs.book.Book.pending_commands.Goals as goal
 

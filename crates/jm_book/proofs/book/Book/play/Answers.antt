@@ -1,4 +1,4 @@
-use Rattle.std.proofs.Common.{◌≡◌, ◌∙◌, sym, ◌<◌, true, false, length, arith}
+use Rattle.std.proofs.Common.{◌∙◌, sym, ◌<◌, length, arith}
 use Rattle.std.proofs.lemmas.Bool.Decides.{nat_tests}
 use Rattle.jm_book.specs.Session.{session_of}
 use Rattle.jm_book.specs.Answers.{is_known, is_full, needs_cut}
@@ -19,4 +19,4 @@ invariant_of-self c =
     let room : length tape.steps < config.events = grind (arith, nat_tests, full) in
     rw (listed, latest, c.after-self-inside.ensures)
     (kept_play config tape c.push_play.new.self c.self.inside.joined c.self.inside.progress c.args.player c.args.tick c.args.command
-     c.self.invariant none.1 room c.push_play.ensures.steps.steps (rw latest at c.push_play.ensures.commands))
+    c.self.invariant none.1 room c.push_play.ensures.steps.steps (rw latest at c.push_play.ensures.commands))

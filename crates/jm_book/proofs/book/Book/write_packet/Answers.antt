@@ -1,7 +1,5 @@
-use Rattle.std.proofs.Common.{◌≡◌, ◌∙◌, ◌≤◌, sym, refl, length, false, true, arith}
+use Rattle.std.proofs.Common.{false, arith}
 use Rattle.jm_wire.specs.Octets.{joined}
-use Rattle.jm_section.specs.Section.{header, list_text}
-use Rattle.jm_book.specs.Pending.{timed_of}
 use Rattle.jm_book.specs.Packet.{packet_of}
 use Rattle.jm_book.proofs.Listing.{length_section_header}
 use Rattle.jm_book.proofs.book.Book.write_packet.Goals as goal

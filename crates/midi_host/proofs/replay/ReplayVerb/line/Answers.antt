@@ -1,4 +1,4 @@
-use Rattle.std.proofs.Common.{◌≡◌, ◌∙◌, ap, sym, refl, Option, Some, None, Bool, true, false}
+use Rattle.std.proofs.Common.{◌≡◌, refl, Option, Some, None}
 use Rattle.std.specs.Prelude.{is_some}
 use Rattle.midi_host.specs.declared.replay.Started.{Started}
 use Rattle.midi_host.specs.ReplayState.{State, lined, lined_from, state_of, is_started, Refuses}
