@@ -30,7 +30,7 @@ const USAGE: &str = "usage: midi_host replay";
 fn program_words(rt: &(impl Env + AllocGlobal)) -> io::Result<Vec<Word>> {
     let mut words = Vec::new(rt.alloc());
     for text in env::args(rt)?.skip(1) {
-        words.push(Word::new(rt.alloc(), text.as_str())?)?;
+        words.push(Word::new(text.as_str(), rt.alloc())?)?;
     }
     Ok(words)
 }
@@ -40,7 +40,7 @@ fn main(rt: HostRuntime) -> ExitCode {
         Ok(words) => {
             let mut source = ReadSource::new(rt.stdin());
             let mut sink = WriteSink::new(rt.stdout());
-            run(rt.alloc(), words.as_slice(), &mut source, &mut sink)
+            run(words.as_slice(), &mut source, &mut sink, rt.alloc())
         }
         Err(error) if error.kind() == ErrorKind::OutOfMemory => Status::NoMemory,
         Err(_) => Status::Usage,

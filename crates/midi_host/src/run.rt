@@ -34,10 +34,10 @@ fn is_replay(words: &[Word]) -> bool
 /// `ReadFault` comes only where the source's count of faults rose in this call, `WriteFault` only where the
 /// sink's did, and `NoMemory` where there was none.
 pub fn run<S: Source, K: Sink>(
-    alloc: Global,
     words: &[Word],
     source: &mut S,
     sink: &mut K,
+    alloc: Global,
 ) -> Status
     ensures usage { (result ≡ Status.Usage) ↔ (words.now ≢ replay_words) }
     ensures ends { Ends result replay_answer (S.left source.old) (S.left source.new) (K.written sink.old)

@@ -14,10 +14,10 @@ fn runs(
     writes: &[u64],
     text: &[u8],
 ) -> Result<(Status, bool), Fail> {
-    let words = [Word::new(alloc, "replay")?];
-    let mut source = MemSource::new(alloc, input, reads)?;
-    let mut sink = MemSink::new(alloc, 512, writes)?;
-    let status = run(alloc, &words, &mut source, &mut sink);
+    let words = [Word::new("replay", alloc)?];
+    let mut source = MemSource::new(input, reads, alloc)?;
+    let mut sink = MemSink::new(512, writes, alloc)?;
+    let status = run(&words, &mut source, &mut sink, alloc);
     Ok((status, sink.as_slice() == text))
 }
 
@@ -73,13 +73,13 @@ fn faults_have_their_statuses(rt: HostRuntime) -> Result<(), Fail> {
 #[test]
 fn other_words_are_refused(rt: HostRuntime) -> Result<(), Fail> {
     let words = [
-        Word::new(rt.alloc(), "replay")?,
-        Word::new(rt.alloc(), "x")?,
+        Word::new("replay", rt.alloc())?,
+        Word::new("x", rt.alloc())?,
     ];
-    let mut source = MemSource::new(rt.alloc(), b"a\n", &[])?;
-    let mut sink = MemSink::new(rt.alloc(), 64, &[])?;
+    let mut source = MemSource::new(b"a\n", &[], rt.alloc())?;
+    let mut sink = MemSink::new(64, &[], rt.alloc())?;
     assert_eq!(rt;
-        run(rt.alloc(), &words, &mut source, &mut sink),
+        run(&words, &mut source, &mut sink, rt.alloc()),
         Status::Usage
     );
     Ok(())

@@ -20,7 +20,7 @@ impl Model for Word {
 
 impl Word {
     /// The word of this text.
-    pub fn new(alloc: Global, text: &str) -> Result<Word, AllocError>
+    pub fn new(text: &str, alloc: Global) -> Result<Word, AllocError>
         ensures { IfOk result (λ word. word ≡ text.now) }
     {
         Ok(Word {
