@@ -9,8 +9,9 @@ pub IsData-front : (xs : List ℕ) → IsData (take (data_len xs) xs)
 IsData-front [] = refl
 IsData-front (x ∷ xs) =
     elim (cases_Bool (ltb x 128)) [
-      inl t ↦ rw (t, add_comm 1 (data_len xs), add-one) (rw t (IsData-front xs))
-    | inr f ↦ rw f refl ]
+      | inl t ↦ rw (t, add_comm 1 (data_len xs), add-one) (rw t (IsData-front xs))
+      | inr f ↦ rw f refl
+    ]
 
 pub IsData-whole : (xs : List ℕ) → length xs ≤ data_len xs → data_len xs ≤ length xs → IsData xs
 IsData-whole xs a b =

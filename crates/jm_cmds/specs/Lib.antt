@@ -4,3 +4,6 @@ pub mod Gives
 pub mod SysexMade
 pub mod Spelled
 pub mod Reading
+pub mod History
+pub mod HistoryLaws
+pub mod Sent
