@@ -1,7 +1,7 @@
 -- A history is a list of places in the order of time. A place says in which packet it was sent, and a
 -- later place may end it. Nothing here knows what a place is: each part of the recovery journal has its
 -- own notion of what ends what.
-use Rattle.std.specs.Prelude.{◌≡◌, ℕ, ◌≤◌, Bool, true, false, not, List, [], ◌∷◌, ◌++◌, nat_lt, nat_le, ◌==◌, if◌then◌else◌, fold, filter}
+use Rattle.std.specs.Prelude.{◌≡◌, ℕ, ◌≤◌, Bool, false, List, [], ◌∷◌, nat_lt, nat_le, ◌==◌, if◌then◌else◌, filter}
 use Rattle.std.specs.List.{list_any, AllByRecursion}
 
 -- the places that no later place ends, in order

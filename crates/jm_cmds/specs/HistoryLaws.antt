@@ -1,7 +1,7 @@
 -- What holds of every history, whatever ends what.
-use Rattle.std.proofs.Common.{◌≡◌, ℕ, zero, suc, ◌+◌, ◌-◌, ◌≤◌, ◌<◌, Bool, true, false, not, cond, List, [], ◌∷◌, ◌++◌, ltb, leb, eqb, ◌||◌, fold, refl, ap, sym, ◌∙◌, subst, arith, inl, inr, take, drop, length, map, append-nil}
-use Rattle.std.specs.List.{list_any, AllByRecursion, filter, AllWithin, All}
-use Rattle.std.proofs.lemmas.Bool.{cases_Bool, ltb-true, ltb-false, leb-true, leb-false, lt-ltb, le-ltb, le-leb, lt-leb, or_parts}
+use Rattle.std.proofs.Common.{◌≡◌, ℕ, zero, suc, ◌+◌, ◌≤◌, ◌<◌, Bool, true, false, not, cond, List, [], ◌∷◌, ◌++◌, ltb, leb, eqb, fold, refl, ap, sym, ◌∙◌, arith, inl, inr, take, drop, length, append-nil}
+use Rattle.std.specs.List.{list_any, AllByRecursion, filter, AllWithin}
+use Rattle.std.proofs.lemmas.Bool.{cases_Bool, ltb-true, ltb-false, leb-true, le-leb, lt-leb, or_parts}
 use Rattle.std.proofs.lemmas.Bool.Decides.{nat_tests}
 use Rattle.std.proofs.lemmas.List.{take-append-drop, get_or-take, get_or-drop, length-take-le, length-drop}
 use Rattle.std.proofs.lemmas.List.Elements.{filter-append, All-from_recursion, recursion_from_All}
@@ -25,10 +25,12 @@ filter-filter p q weaker [] = refl
 filter-filter p q weaker (x ∷ xs) =
     let ih = filter-filter p q weaker xs in
     elim (cases_Bool (p x)) [
-      inl t ↦ rw t (ap (λ l. cond (q x) (x ∷ l) l) ih)
-    | inr f ↦ elim (cases_Bool (q x)) [
-        inl e ↦ absurd (true_not_false (p x) (weaker x e) f)
-      | inr n ↦ rw (f, n) ih ] ]
+      | inl t ↦ rw t (ap (λ l. cond (q x) (x ∷ l) l) ih)
+      | inr f ↦ elim (cases_Bool (q x)) [
+        | inl e ↦ absurd (true_not_false (p x) (weaker x e) f)
+        | inr n ↦ rw (f, n) ih
+      ]
+    ]
   where
     true_not_false : (b : Bool) → b ≡ true → b ≡ false → ⊥
     true_not_false b t f = cc
@@ -51,10 +53,12 @@ standing-push ends [] y = refl
 standing-push ends (x ∷ xs) y =
     let ih = standing-push ends xs y in
     elim (cases_Bool (list_any (ends x) xs)) [
-      inl t ↦ rw (list_any-append (ends x) xs (y ∷ []), t) ih
-    | inr f ↦ elim (cases_Bool (ends x y)) [
-        inl e ↦ rw (list_any-append (ends x) xs (y ∷ []), f, e) ih
-      | inr n ↦ rw (list_any-append (ends x) xs (y ∷ []), f, n) (ap (λ l. x ∷ l) ih) ] ]
+      | inl t ↦ rw (list_any-append (ends x) xs (y ∷ []), t) ih
+      | inr f ↦ elim (cases_Bool (ends x y)) [
+        | inl e ↦ rw (list_any-append (ends x) xs (y ∷ []), f, e) ih
+        | inr n ↦ rw (list_any-append (ends x) xs (y ∷ []), f, n) (ap (λ l. x ∷ l) ih)
+      ]
+    ]
 
 -- what holds of all places holds of those that stand
 pub AllByRecursion-standing : {X : Type 0} (P : X → Type 0) (ends : X → X → Bool) (xs : List X) → AllByRecursion P xs → AllByRecursion P (standing ends xs)
@@ -75,16 +79,18 @@ Unended-standing ends [] = tt
 Unended-standing ends (x ∷ xs) =
     let ih = Unended-standing ends xs in
     elim (cases_Bool (list_any (ends x) xs)) [
-      inl t ↦ rw t ih
-    | inr f ↦ rw f (AllByRecursion-standing (λ y. ends x y ≡ false) ends xs (all_unended (ends x) xs f), ih) ]
+      | inl t ↦ rw t ih
+      | inr f ↦ rw f (AllByRecursion-standing (λ y. ends x y ≡ false) ends xs (all_unended (ends x) xs f), ih)
+    ]
 
 pub Unended-filter : {X : Type 0} (ends : X → X → Bool) (p : X → Bool) (xs : List X) → Unended ends xs → Unended ends (filter p xs)
 Unended-filter ends p [] h = tt
 Unended-filter ends p (x ∷ xs) h =
     let ih = Unended-filter ends p xs h.1 in
     elim (cases_Bool (p x)) [
-      inl t ↦ rw t (AllByRecursion-filter (λ y. ends x y ≡ false) p xs h.0, ih)
-    | inr f ↦ rw f ih ]
+      | inl t ↦ rw t (AllByRecursion-filter (λ y. ends x y ≡ false) p xs h.0, ih)
+      | inr f ↦ rw f ih
+    ]
 
 -- ## Order
 
@@ -93,8 +99,9 @@ InOrder-filter at p [] h = tt
 InOrder-filter at p (x ∷ xs) h =
     let ih = InOrder-filter at p xs h.1 in
     elim (cases_Bool (p x)) [
-      inl t ↦ rw t (AllByRecursion-filter (λ y. at x ≤ at y) p xs h.0, ih)
-    | inr f ↦ rw f ih ]
+      | inl t ↦ rw t (AllByRecursion-filter (λ y. at x ≤ at y) p xs h.0, ih)
+      | inr f ↦ rw f ih
+    ]
 
 -- the places that stand are in the order of their packets, or of any other number: oldest first
 pub InOrder-standing : {X : Type 0} (at : X → ℕ) (ends : X → X → Bool) (xs : List X) → InOrder at xs → InOrder at (standing ends xs)
@@ -102,8 +109,9 @@ InOrder-standing at ends [] h = tt
 InOrder-standing at ends (x ∷ xs) h =
     let ih = InOrder-standing at ends xs h.1 in
     elim (cases_Bool (list_any (ends x) xs)) [
-      inl t ↦ rw t ih
-    | inr f ↦ rw f (AllByRecursion-standing (λ y. at x ≤ at y) ends xs h.0, ih) ]
+      | inl t ↦ rw t ih
+      | inr f ↦ rw f (AllByRecursion-standing (λ y. at x ≤ at y) ends xs h.0, ih)
+    ]
 
 -- from a packet on that none of the places is before, all are left
 pub since_all : {X : Type 0} (at : X → ℕ) (p : ℕ) (xs : List X) → AllByRecursion (λ x. p ≤ at x) xs → since at p xs ≡ xs
@@ -115,15 +123,17 @@ since-standing ends at p [] h = refl
 since-standing ends at p (x ∷ xs) h =
     let ih = since-standing ends at p xs h.1 in
     elim (cases_Bool (leb p (at x))) [
-      inl t ↦
-        let from : p ≤ at x = leb-true p (at x) t in
-        let later = AllByRecursion-weaker (λ y. at x ≤ at y) (λ y. p ≤ at y) (λ y l. omega arith) xs h.0 in
-        let all : AllByRecursion (λ y. p ≤ at y) (x ∷ xs) = (from, later) in
-        since_all at p (standing ends (x ∷ xs)) (AllByRecursion-standing (λ y. p ≤ at y) ends (x ∷ xs) all)
-        ∙ ap (standing ends) (sym (since_all at p (x ∷ xs) all))
-    | inr f ↦ elim (cases_Bool (list_any (ends x) xs)) [
-        inl e ↦ rw (e, f) ih
-      | inr n ↦ rw (n, f) ih ] ]
+      | inl t ↦
+          let from : p ≤ at x = leb-true p (at x) t in
+          let later = AllByRecursion-weaker (λ y. at x ≤ at y) (λ y. p ≤ at y) (λ y l. omega arith) xs h.0 in
+          let all : AllByRecursion (λ y. p ≤ at y) (x ∷ xs) = (from, later) in
+          since_all at p (standing ends (x ∷ xs)) (AllByRecursion-standing (λ y. p ≤ at y) ends (x ∷ xs) all)
+          ∙ ap (standing ends) (sym (since_all at p (x ∷ xs) all))
+      | inr f ↦ elim (cases_Bool (list_any (ends x) xs)) [
+        | inl e ↦ rw (e, f) ih
+        | inr n ↦ rw (n, f) ih
+      ]
+    ]
 
 -- A greater checkpoint keeps of what is coded the places in packets from it on.
 pub coded-later : {X : Type 0} (ends : X → X → Bool) (at : X → ℕ) (p q : ℕ) (xs : List X) → p ≤ q → since at q (coded ends at p xs) ≡ coded ends at q xs
@@ -136,14 +146,31 @@ since_last at p [] h = refl
 since_last at p (x ∷ xs) h =
     let ih = since_last at p xs h.1 in
     elim (cases_Bool (eqb (at x) p)) [
-      inl t ↦ let l : leb p (at x) ≡ true = grind (arith, nat_tests, h.0) in rw (t, l) (ap (λ k. x ∷ k) ih)
-    | inr f ↦ let l : leb p (at x) ≡ false = grind (arith, nat_tests, h.0) in rw (f, l) ih ]
+      | inl t ↦ let l : leb p (at x) ≡ true = grind (arith, nat_tests, h.0) in rw (t, l) (ap (λ k. x ∷ k) ih)
+      | inr f ↦ let l : leb p (at x) ≡ false = grind (arith, nat_tests, h.0) in rw (f, l) ih
+    ]
 
 pub All-below : {X : Type 0} (at : X → ℕ) (p : ℕ) (xs : List X) → AllByRecursion (λ x. at x < p) (below at p xs)
 All-below at p [] = tt
 All-below at p (x ∷ xs) =
     let ih = All-below at p xs in
     elim (cases_Bool (ltb (at x) p)) [ inl t ↦ rw t (ltb-true (at x) p t, ih) | inr f ↦ rw f ih ]
+
+-- ## What is coded
+
+pub Unended-coded : {X : Type 0} (ends : X → X → Bool) (at : X → ℕ) (p : ℕ) (xs : List X) → Unended ends (coded ends at p xs)
+Unended-coded ends at p xs = Unended-filter ends (λ x. leb p (at x)) (standing ends xs) (Unended-standing ends xs)
+
+pub InOrder-coded : {X : Type 0} (number_of : X → ℕ) (ends : X → X → Bool) (at : X → ℕ) (p : ℕ) (xs : List X) → InOrder number_of xs → InOrder number_of (coded ends at p xs)
+InOrder-coded number_of ends at p xs h =
+    InOrder-filter number_of (λ x. leb p (at x)) (standing ends xs) (InOrder-standing number_of ends xs h)
+
+pub coded_fresh : {X : Type 0} (ends : X → X → Bool) (at : X → ℕ) (p last : ℕ) (xs : List X) → p ≤ last → within at last (coded ends at p (below at (last + 1) xs)) ≡ coded ends at last (below at (last + 1) xs)
+coded_fresh ends at p last xs l =
+    let seen = below at (last + 1) xs in
+    let none_later = AllByRecursion-weaker (λ x. at x < last + 1) (λ x. at x ≤ last) (λ x h. omega arith) seen (All-below at (last + 1) xs) in
+    let coded_too = AllByRecursion-filter (λ x. at x ≤ last) (λ x. leb p (at x)) (standing ends seen) (AllByRecursion-standing (λ x. at x ≤ last) ends seen none_later) in
+    sym (since_last at last (coded ends at p seen) coded_too) ∙ coded-later ends at p last seen l
 
 -- ## A history cut at a packet
 
@@ -159,12 +186,12 @@ IsNonDecreasingBy-from_InOrder at (x ∷ xs) h (suc i) (suc j) d l m =
 all_front : {X : Type 0} (P : X → Type 0) (i : ℕ) (xs : List X) → AllWithin P xs 0 i → i ≤ length xs → AllByRecursion P (take i xs)
 all_front P i xs a l =
     recursion_from_All P (take i xs)
-      (λ k d m. let k_in : k < i = (let e = length-take-le i xs l in omega arith) in rw (get_or-take i xs k d k_in) (a k d (omega arith) k_in))
+    (λ k d m. let k_in : k < i = (let e = length-take-le i xs l in omega arith) in rw (get_or-take i xs k d k_in) (a k d (omega arith) k_in))
 
 all_back : {X : Type 0} (P : X → Type 0) (i : ℕ) (xs : List X) → AllWithin P xs i (length xs) → AllByRecursion P (drop i xs)
 all_back P i xs b =
     recursion_from_All P (drop i xs)
-      (λ k d m. rw (get_or-drop i xs k d) (b (i + k) d (omega arith) (let e = length-drop i xs in omega arith)))
+    (λ k d m. rw (get_or-drop i xs k d) (b (i + k) d (omega arith) (let e = length-drop i xs in omega arith)))
 
 -- Where the places before i are in packets before p and the others aren't, i cuts the list at p.
 pub below-cut : {X : Type 0} (at : X → ℕ) (p i : ℕ) (xs : List X) → IsPartitionPoint (λ x. ltb (at x) p ≡ true) (λ x. ltb (at x) p ≡ false) xs i → i ≤ length xs → take i xs ≡ below at p xs

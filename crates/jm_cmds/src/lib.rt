@@ -7,14 +7,17 @@
 #![tactic(auto)]
 
 mod commands;
+mod controls;
 mod history;
+pub mod laws;
 mod numbers;
 mod outcome;
 mod reading;
 mod system_exclusive;
 
 pub use commands::{Command, Spelled};
-pub use history::{Sent, recent, seen};
+pub use controls::ControlKind;
+pub use history::{Sent, place_of, recent, seen};
 pub use numbers::{Channel, D7, D14};
 pub use outcome::ReadError;
 pub use reading::{CmdFault, read_command};

@@ -58,7 +58,7 @@ impl Sysex {
 
     /// A message of these data octets. It is `BadData` at the first octet over 0x7F, else `TooLong`
     /// exactly where there are over 2,046 of them.
-    #[tactic(auto, using(crate::proofs::DataOctets::on_data))]
+    #[tactic(auto, using(crate::specs::DataLaws::on_data))]
     pub fn new(octets: &[u8], alloc: Global) -> Result<Sysex, ReadError<SysexFault>>
         ensures { Gives result (sysex_made octets.now) }
     {

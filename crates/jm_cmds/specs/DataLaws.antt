@@ -1,4 +1,4 @@
--- The data octets at the front.
+-- What holds of the data octets at the front.
 use Rattle.std.proofs.Common.{◌≡◌, ◌≤◌, ◌∷◌, [], ℕ, List, ltb, take, length, refl, arith, add-one, add_comm, inl, inr}
 use Rattle.std.proofs.Math.Seq.{take-length}
 use Rattle.std.proofs.lemmas.Bool.{cases_Bool}
