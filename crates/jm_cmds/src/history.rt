@@ -10,7 +10,7 @@ use crate::commands::Command;
 ///
 /// A session's history is the list of these in the order of sending, so packets and ticks never fall
 /// along it. The first packet is packet 0, and a tick is 100 microseconds.
-#[derive(Debug, Drop)]
+#[derive(PartialEq, Eq, Debug, Drop)]
 pub struct Sent {
     pub packet: u64,
     pub tick: u64,

@@ -22,3 +22,6 @@ pub use numbers::{Channel, D7, D14};
 pub use outcome::ReadError;
 pub use reading::{CmdFault, read_command};
 pub use system_exclusive::{Sysex, SysexFault};
+
+#[cfg(test)]
+mod tests;
