@@ -1,0 +1,44 @@
+//! The history of a session.
+
+ghost use Rattle.std.specs.Prelude.{◌≡◌, ◌≤◌, length, take, drop};
+ghost use Rattle.jm_cmds.specs.History.{InOrder, below, since};
+ghost use Rattle.jm_cmds.specs.Sent.{packet_of};
+
+use crate::commands::Command;
+
+/// A command of the session's history: it went out in this packet, at this tick.
+///
+/// A session's history is the list of these in the order of sending, so packets and ticks never fall
+/// along it. The first packet is packet 0, and a tick is 100 microseconds.
+#[derive(PartialEq, Eq, Debug, Drop)]
+pub struct Sent {
+    pub packet: u64,
+    pub tick: u64,
+    pub command: Command,
+}
+
+/// The place at which this packet begins, or would begin.
+pub fn place_of(list: &[Sent], packet: u64) -> usize
+    requires { InOrder packet_of list.now }
+    ensures bound { result ≤ length list.now }
+    ensures before { take result list.now ≡ below packet_of packet list.now }
+    ensures from_on { drop result list.now ≡ since packet_of packet list.now }
+{
+    list.partition_point(|sent| sent.packet < packet)
+}
+
+/// The commands in packets before this one.
+pub fn seen(list: &[Sent], packet: u64) -> &[Sent]
+    requires { InOrder packet_of list.now }
+    ensures { result.now ≡ below packet_of packet list.now }
+{
+    &list[..place_of(list, packet)]
+}
+
+/// The commands in packets from the checkpoint on.
+pub fn recent(list: &[Sent], checkpoint: u64) -> &[Sent]
+    requires { InOrder packet_of list.now }
+    ensures { result.now ≡ since packet_of checkpoint list.now }
+{
+    &list[place_of(list, checkpoint)..]
+}
