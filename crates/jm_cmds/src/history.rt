@@ -2,7 +2,7 @@
 
 ghost use Rattle.std.specs.Prelude.{◌≡◌, ◌≤◌, length, take, drop};
 ghost use Rattle.jm_cmds.specs.History.{InOrder, below, since};
-ghost use Rattle.jm_cmds.specs.Sent.{packet_of};
+ghost use Rattle.jm_cmds.specs.Sent.{packet_of, is_fresh, s_bit};
 
 use crate::commands::Command;
 
@@ -15,6 +15,24 @@ pub struct Sent {
     pub packet: u64,
     pub tick: u64,
     pub command: Command,
+}
+
+impl Sent {
+    /// Whether the command went out in the packet before this one.
+    pub fn is_fresh(&self, packet: u64) -> bool
+        ensures { result ≡ is_fresh packet self.now }
+    {
+        packet >= 1 && self.packet == packet - 1
+    }
+
+    /// The S bit of the command's log in this packet's journal, as the high bit of an octet: 0 where the
+    /// command went out in the packet before, else 128 (RFC 6295, A.1).
+    pub fn s_bit(&self, packet: u64) -> u8
+        ensures bit { result ≡ s_bit packet self.now }
+        ensures bound { result ≤ 128 }
+    {
+        if self.is_fresh(packet) { 0 } else { 128 }
+    }
 }
 
 /// The place at which this packet begins, or would begin.
