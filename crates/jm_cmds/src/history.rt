@@ -1,7 +1,7 @@
 //! The history of a session.
 
-ghost use Rattle.std.specs.Prelude.{◌≡◌, ◌≤◌, length, take, drop};
-ghost use Rattle.jm_cmds.specs.History.{InOrder, below, since};
+ghost use Rattle.std.specs.Prelude.{◌≡◌, ◌≤◌, Bool, length, take, drop};
+ghost use Rattle.jm_cmds.specs.History.{InOrder, below, since, standing, coded};
 ghost use Rattle.jm_cmds.specs.Sent.{packet_of, is_fresh, s_bit};
 
 use crate::commands::Command;
@@ -45,18 +45,23 @@ pub fn place_of(list: &[Sent], packet: u64) -> usize
     list.partition_point(|sent| sent.packet < packet)
 }
 
-/// The commands in packets before this one.
-pub fn seen(list: &[Sent], packet: u64) -> &[Sent]
+/// The session history of a packet (RFC 6295, A.1): the commands in packets before it.
+pub fn session_history(list: &[Sent], packet: u64) -> &[Sent]
     requires { InOrder packet_of list.now }
-    ensures { result.now ≡ below packet_of packet list.now }
+    ensures history { result.now ≡ below packet_of packet list.now }
+    ensures order { InOrder packet_of result.now }
 {
     &list[..place_of(list, packet)]
 }
 
-/// The commands in packets from the checkpoint on.
-pub fn recent(list: &[Sent], checkpoint: u64) -> &[Sent]
+/// The checkpoint history of a packet (RFC 6295, A.1): the commands in packets from the checkpoint on and
+/// before it. Whatever ends what, the places that stand in it are what the packet's journal codes.
+pub fn checkpoint_history(list: &[Sent], checkpoint: u64, packet: u64) -> &[Sent]
     requires { InOrder packet_of list.now }
-    ensures { result.now ≡ since packet_of checkpoint list.now }
+    ensures history { result.now ≡ since packet_of checkpoint (below packet_of packet list.now) }
+    ensures coded { (ends : Sent → Sent → Bool) → standing ends result.now
+        ≡ coded ends packet_of checkpoint (below packet_of packet list.now) }
 {
-    &list[place_of(list, checkpoint)..]
+    let session = session_history(list, packet);
+    &session[place_of(session, checkpoint)..]
 }

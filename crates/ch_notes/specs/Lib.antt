@@ -1,0 +1,3 @@
+pub mod NoteEvent
+pub mod ChapterN
+pub mod Shape
