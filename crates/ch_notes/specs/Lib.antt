@@ -1,3 +1,4 @@
 pub mod NoteEvent
 pub mod ChapterN
 pub mod Shape
+pub mod ShapeLaws

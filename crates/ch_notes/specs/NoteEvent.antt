@@ -1,8 +1,9 @@
 -- What a command means for the notes of one channel (RFC 6295, A.1 and A.6).
-use Rattle.std.specs.Prelude.{ℕ, ◌<◌, Bool, true, false, ◌==◌, if◌then◌else◌}
+use Rattle.std.specs.Prelude.{ℕ, ◌<◌, List, Bool, true, false, ◌==◌, if◌then◌else◌}
 use Rattle.jm_cmds.specs.declared.commands.Command.{Command}
 use Rattle.jm_cmds.specs.declared.commands.Command.TheVariants.{NoteOff, NoteOn}
 use Rattle.jm_cmds.specs.declared.history.Sent.{Sent}
+use Rattle.std.specs.List.{AllByRecursion}
 use Rattle.jm_cmds.specs.Control.{ends_notes}
 use Rattle.ch_notes.specs.declared.events.NoteEvent.{NoteEvent}
 use Rattle.ch_notes.specs.declared.events.NoteEvent.TheVariants.{Struck, Released, Cleared, Other}
@@ -41,3 +42,7 @@ event_at channel place = note_event channel place.command
 -- what ends what among the notes of a channel: the last command of each note that is N-active stands
 abbrev pub note_ends : ℕ → Sent → Sent → Bool
 note_ends channel place later = event_ends (event_at channel place) (event_at channel later)
+
+-- so of each place
+abbrev pub AreWithin : ℕ → List Sent → Type 0
+AreWithin channel places = AllByRecursion (λ place. IsWithin (event_at channel place)) places

@@ -44,7 +44,6 @@ impl Shape {
         requires within { IsWithin event }
         requires logs_fit { self.old.logs + 1 < 2 ^ 64 }
         requires off_fit { self.old.off + 1 < 2 ^ 64 }
-        requires notes { length self.old.released ≡ 128 }
         ensures step { self.new ≡ shape_step self.old is_fresh event }
     {
         match event {

@@ -1,6 +1,6 @@
 //! The history of a session.
 
-ghost use Rattle.std.specs.Prelude.{◌≡◌, ◌≤◌, Bool, length, take, drop};
+ghost use Rattle.std.specs.Prelude.{◌≡◌, ◌≤◌, Bool, [], ◌∷◌, MatchOption, length, take, drop};
 ghost use Rattle.jm_cmds.specs.History.{InOrder, below, since, standing, coded};
 ghost use Rattle.jm_cmds.specs.Sent.{packet_of, is_fresh, s_bit};
 
@@ -33,6 +33,13 @@ impl Sent {
     {
         if self.is_fresh(packet) { 0 } else { 128 }
     }
+}
+
+/// The first place and those after it, or `None` where there is no place.
+pub fn first_place(places: &[Sent]) -> Option<(&Sent, &[Sent])>
+    ensures { MatchOption result (places.now ≡ []) (λ parts. places.now ≡ parts.0.now ∷ parts.1.now) }
+{
+    places.split_first()
 }
 
 /// The place at which this packet begins, or would begin.
