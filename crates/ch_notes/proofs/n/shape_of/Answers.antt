@@ -2,6 +2,7 @@ use Rattle.std.proofs.Common.{◌≡◌, ◌∷◌, ap, arith, length}
 use Rattle.jm_cmds.specs.History.{standing}
 use Rattle.ch_notes.specs.NoteEvent.{AreWithin, note_ends}
 use Rattle.ch_notes.specs.Shape.{counted, no_notes}
+use Rattle.ch_notes.specs.CountBounds.{IsCount-counted}
 use Rattle.ch_notes.specs.ShapeLaws.{counted_more, logs_of_step, off_of_step, AreWithin-standing}
 use Rattle.ch_notes.proofs.n.shape_of.Goals as goal
 
