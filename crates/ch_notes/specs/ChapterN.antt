@@ -2,7 +2,7 @@
 use Rattle.std.specs.Prelude.{ℕ, ◌+◌, ◌-◌, ◌*◌, ◌/◌, Bool, true, false, ◌&&◌, ◌||◌, List, [], ◌∷◌, ◌++◌, Option, Some, None, length, map, fold, count_by, nat_le, ◌==◌, if◌then◌else◌, min, max}
 use Rattle.std.specs.List.{list_any, flat_map, filter_map, range_with_len}
 use Rattle.jm_cmds.specs.declared.history.Sent.{Sent}
-use Rattle.jm_cmds.specs.History.{coded, below}
+use Rattle.jm_cmds.specs.History.{coded, below, standing}
 use Rattle.jm_cmds.specs.Sent.{packet_of, is_fresh, s_bit}
 use Rattle.ch_notes.specs.declared.events.NoteEvent.{NoteEvent}
 use Rattle.ch_notes.specs.declared.events.NoteEvent.TheVariants.{Struck, Released, Cleared, Other}
@@ -29,6 +29,10 @@ event_log s y Other = []
 -- the log of a place, where it is a struck note: S NOTENUM, Y VELOCITY
 abbrev pub note_log : ℕ → ℕ → ℕ → Sent → List ℕ
 note_log channel packet tick place = event_log (s_bit packet place) (y_bit tick place) (event_at channel place)
+
+-- the logs of the struck notes that stand among these places
+abbrev pub logs_of : ℕ → ℕ → ℕ → List Sent → List ℕ
+logs_of channel packet tick places = flat_map (note_log channel packet tick) (standing (note_ends channel) places)
 
 abbrev pub log_count : ℕ → List Sent → ℕ
 log_count channel places = count_by (λ place. is_struck (event_at channel place)) places

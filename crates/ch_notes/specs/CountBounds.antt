@@ -13,6 +13,7 @@ use Rattle.ch_notes.specs.declared.events.NoteEvent.TheVariants.{Struck, Release
 use Rattle.ch_notes.specs.declared.shape.Shape.{Shape}
 use Rattle.ch_notes.specs.NoteEvent.{event_at, concerns, event_ends, note_ends, IsWithin, AreWithin}
 use Rattle.ch_notes.specs.Shape.{counted, no_notes}
+use Rattle.ch_notes.specs.Count.{IsCount}
 use Rattle.ch_notes.specs.CountLaws.{counted-logs, counted-off, counted-low, counted-high}
 use Rattle.ch_notes.specs.ChapterN.{is_struck, released_note, released, log_count, low_octet, high_octet}
 
@@ -76,13 +77,14 @@ found-below : (notes : List ℕ) (q : ℕ) → AllByRecursion (λ n. n < 128) no
 found-below [] q h e = absurd (let f : false ≡ true = e in cc)
 found-below (n ∷ ns) q h e =
     elim (or_cases (eqb q n) (list_any (eqb q) ns) e) [
-      inl t ↦ let same : q ≡ n = eqb-true q n t in omega (arith, same, h.0)
-    | inr later ↦ found-below ns q h.1 later ]
+      | inl t ↦ let same : q ≡ n = eqb-true q n t in omega (arith, same, h.0)
+      | inr later ↦ found-below ns q h.1 later
+    ]
 
 notes-few : (channel : ℕ) (places : List Sent) → Unended (note_ends channel) places → AreWithin channel places → length (notes_of channel places) ≤ 128
 notes-few channel places u w =
     length-le_from_distinct_below (notes_of channel places) 128 (IsDistinct-notes channel places u)
-      (λ q e. found-below (notes_of channel places) q (notes-below channel places w) e)
+    (λ q e. found-below (notes_of channel places) q (notes-below channel places w) e)
 
 step-released-below : (event : NoteEvent) (notes : List ℕ) → IsWithin event → AllByRecursion (λ n. n < 128) notes → AllByRecursion (λ n. n < 128) (cons_option (released_note event) notes)
 step-released-below (Struck note velocity) notes w h = h
@@ -110,15 +112,6 @@ one-octet (n ∷ m ∷ ns) b e = absurd (omega (arith, e))
 no-octet : (notes : List ℕ) → length notes ≡ 0 → (low_octet notes ≡ 15) × (high_octet notes ≡ 0)
 no-octet [] e = (refl, refl)
 no-octet (n ∷ ns) e = absurd (omega (arith, e))
-
--- what is known of the numbers of a chapter
-pub record IsCount (s : Shape) : Type 0 where
-  pub low : s.low ≤ 15
-  pub high : s.high ≤ 15
-  pub notes : s.logs + s.off ≤ 128
-  pub none_low : s.off ≡ 0 → s.low ≡ 15
-  pub none_high : s.off ≡ 0 → s.high ≡ 0
-  pub one : s.off ≡ 1 → s.low ≡ s.high
 
 pub IsCount-counted : (channel packet : ℕ) (places : List Sent) → AreWithin channel (standing (note_ends channel) places) → IsCount (counted channel packet no_notes (standing (note_ends channel) places))
 IsCount-counted channel packet places w =

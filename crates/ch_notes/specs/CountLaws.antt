@@ -104,13 +104,14 @@ step-released s fresh (Struck note velocity) notes n w l = refl
 step-released s fresh (Released note velocity) notes n w l =
     let inside : note < length s.released = omega arith in
     elim (cases_Bool (eqb note n)) [
-      inl t ↦
-        let same : get_or (set s.released note true) n false ≡ true = ap (λ k. get_or (set s.released note true) k false) (sym (eqb-true note n t)) ∙ get_or-set_same s.released note true false inside in
-        rw (t, same) (sym (or_true (get_or s.released n false)))
-    | inr f ↦
-        let apart : n ≢ note = λ e. eqb-false note n f (sym e) in
-        let other : get_or (set s.released note true) n false ≡ get_or s.released n false = get_or-set_other s.released note n true false apart in
-        rw (f, other) refl ]
+      | inl t ↦
+          let same : get_or (set s.released note true) n false ≡ true = ap (λ k. get_or (set s.released note true) k false) (sym (eqb-true note n t)) ∙ get_or-set_same s.released note true false inside in
+          rw (t, same) (sym (or_true (get_or s.released n false)))
+      | inr f ↦
+          let apart : n ≢ note = λ e. eqb-false note n f (sym e) in
+          let other : get_or (set s.released note true) n false ≡ get_or s.released n false = get_or-set_other s.released note n true false apart in
+          rw (f, other) refl
+    ]
   where
     or_true : (a : Bool) → (a || true) ≡ true
     or_true true = refl
@@ -126,3 +127,19 @@ counted-released channel packet s (x ∷ xs) n w l =
     let event = event_at channel x in
     counted-released channel packet (shape_step s fresh event) xs n w.1 (step-marks s fresh event ∙ l)
     ∙ step-released s fresh event (released channel xs) n w.0 l
+
+step-fresh : (s : Shape) (is_new : Bool) (event : NoteEvent) → (shape_step s is_new event).fresh ≡ (s.fresh || ((is_struck event || is_released event) && is_new))
+step-fresh s is_new (Struck note velocity) = refl
+step-fresh s is_new (Released note velocity) = refl
+step-fresh s is_new Cleared = sym (or_false s.fresh)
+step-fresh s is_new Other = sym (or_false s.fresh)
+
+pub counted-fresh : (channel packet : ℕ) (s : Shape) (places : List Sent) → (counted channel packet s places).fresh ≡ (s.fresh || list_any (λ place. (is_struck (event_at channel place) || is_released (event_at channel place)) && is_fresh packet place) places)
+counted-fresh channel packet s [] = sym (or_false s.fresh)
+counted-fresh channel packet s (x ∷ xs) =
+    let is_new = is_fresh packet x in
+    let event = event_at channel x in
+    let test : Sent → Bool = λ place. (is_struck (event_at channel place) || is_released (event_at channel place)) && is_fresh packet place in
+    counted-fresh channel packet (shape_step s is_new event) xs
+    ∙ ap (λ b. b || list_any test xs) (step-fresh s is_new event)
+    ∙ or_assoc s.fresh ((is_struck event || is_released event) && is_new) (list_any test xs)

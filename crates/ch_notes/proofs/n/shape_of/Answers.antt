@@ -1,7 +1,9 @@
-use Rattle.std.proofs.Common.{◌≡◌, ◌∷◌, ap, arith, length}
+use Rattle.std.proofs.Common.{◌≡◌, ◌∷◌, [], ap, sym, subst, arith, length}
 use Rattle.jm_cmds.specs.History.{standing}
 use Rattle.ch_notes.specs.NoteEvent.{AreWithin, note_ends}
 use Rattle.ch_notes.specs.Shape.{counted, no_notes}
+use Rattle.ch_notes.specs.ChapterLaws.{chapter_of-shaped}
+use Rattle.ch_notes.specs.Count.{IsCount}
 use Rattle.ch_notes.specs.CountBounds.{IsCount-counted}
 use Rattle.ch_notes.specs.ShapeLaws.{counted_more, logs_of_step, off_of_step, AreWithin-standing}
 use Rattle.ch_notes.proofs.n.shape_of.Goals as goal
@@ -23,3 +25,14 @@ loop-place-preserved c =
       (rw step (omega (arith, logs_of_step s c.is_fresh.result event, c.loop-place.invariant.2, size))),
       (rw step (omega (arith, off_of_step s c.is_fresh.result event, c.loop-place.invariant.3, size))),
     )
+
+pub returns-clause-count : goal.returns-clause-count
+returns-clause-count c =
+    let channel = c.args.channel in
+    let packet = c.args.packet in
+    let places = c.args.places.now in
+    let rest = c.loop-place.rest.now in
+    let ended : rest ≡ [] = c.in_default.ensures in
+    let done : c.loop-place.shape ≡ counted channel packet no_notes (standing (note_ends channel) places) = rw ended at c.loop-place.invariant.0 in
+    let within : AreWithin channel (standing (note_ends channel) places) = (rw ended at c.loop-place.invariant.1) tt in
+    subst IsCount (sym done) (IsCount-counted channel packet places within)
