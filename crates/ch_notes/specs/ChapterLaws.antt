@@ -1,6 +1,6 @@
 -- Chapter N by the numbers that counting gives.
-use Rattle.std.proofs.Common.{◌≡◌, ℕ, zero, suc, ◌+◌, ◌*◌, ◌-◌, ◌≤◌, Bool, true, false, cond, ◌||◌, ◌&&◌, eqb, List, [], ◌∷◌, ◌++◌, length, map, get_or, replicate, refl, sym, ap, ◌∙◌, subst, arith, length-append, min}
-use Rattle.std.specs.List.{list_any, flat_map, filter_map, sum_by, range_with_len}
+use Rattle.std.proofs.Common.{◌≡◌, ℕ, zero, suc, ◌+◌, ◌*◌, ◌-◌, Bool, true, false, cond, ◌||◌, ◌&&◌, eqb, List, [], ◌∷◌, ◌++◌, length, map, get_or, replicate, refl, sym, ap, ◌∙◌, arith, length-append, min}
+use Rattle.std.specs.List.{list_any, flat_map, range_with_len}
 use Rattle.std.proofs.lemmas.List.Sums.{sum_by-cons}
 use Rattle.std.proofs.lemmas.List.FromFn.{length-map-range_with_len}
 use Rattle.jm_cmds.specs.declared.history.Sent.{Sent}
@@ -12,7 +12,7 @@ use Rattle.ch_notes.specs.declared.events.NoteEvent.TheVariants.{Struck, Release
 use Rattle.ch_notes.specs.declared.shape.Shape.{Shape}
 use Rattle.ch_notes.specs.NoteEvent.{event_at, note_ends, AreWithin}
 use Rattle.ch_notes.specs.Shape.{counted, no_notes, is_bare, first_field, second_field, span, mark_bit, mark_octet, mark_octets, shaped, shape_len}
-use Rattle.ch_notes.specs.ChapterN.{is_struck, is_released, event_log, note_log, y_bit, log_count, released, low_octet, high_octet, note_bit, off_octet, off_octets, chapter_of, coded_notes, chapter_n, fresh_n}
+use Rattle.ch_notes.specs.ChapterN.{is_struck, is_released, event_log, note_log, y_bit, log_count, released, low_octet, high_octet, note_bit, off_octet, off_octets, chapter_of, chapter_n, fresh_n}
 use Rattle.ch_notes.specs.CountLaws.{counted-logs, counted-off, counted-low, counted-high, counted-fresh_off, counted-fresh, counted-released}
 use Rattle.ch_notes.specs.BitLaws.{map_same}
 

@@ -1,5 +1,5 @@
 -- How many notes there may be.
-use Rattle.std.proofs.Common.{◌≡◌, ℕ, ◌+◌, ◌*◌, ◌-◌, ◌/◌, ◌≤◌, ◌<◌, Bool, true, false, cond, ◌||◌, eqb, List, [], ◌∷◌, Option, Some, None, length, fold, refl, sym, ap, ◌∙◌, arith, inl, inr, min, max}
+use Rattle.std.proofs.Common.{◌≡◌, ℕ, ◌+◌, ◌/◌, ◌≤◌, ◌<◌, true, false, cond, eqb, List, [], ◌∷◌, Option, Some, None, length, fold, refl, sym, ap, ◌∙◌, arith, inl, inr, min, max}
 use Rattle.std.specs.List.{list_any, AllByRecursion, IsDistinct, filter_map, cons_option}
 use Rattle.std.proofs.lemmas.Bool.{eqb-true, or_cases}
 use Rattle.std.proofs.lemmas.List.Sums.{sum_by-cons}
@@ -10,7 +10,6 @@ use Rattle.jm_cmds.specs.History.{standing, Unended}
 use Rattle.jm_cmds.specs.HistoryLaws.{Unended-standing}
 use Rattle.ch_notes.specs.declared.events.NoteEvent.{NoteEvent}
 use Rattle.ch_notes.specs.declared.events.NoteEvent.TheVariants.{Struck, Released, Cleared, Other}
-use Rattle.ch_notes.specs.declared.shape.Shape.{Shape}
 use Rattle.ch_notes.specs.NoteEvent.{event_at, concerns, event_ends, note_ends, IsWithin, AreWithin}
 use Rattle.ch_notes.specs.Shape.{counted, no_notes}
 use Rattle.ch_notes.specs.Count.{IsCount}

@@ -1,6 +1,6 @@
 -- What counting the places gives: the numbers of Chapter N.
-use Rattle.std.proofs.Common.{◌≡◌, ◌≢◌, ℕ, ◌+◌, ◌*◌, ◌-◌, ◌/◌, ◌≤◌, ◌<◌, Bool, true, false, cond, ◌&&◌, ◌||◌, eqb, List, [], ◌∷◌, ◌++◌, length, map, fold, get_or, set, refl, sym, ap, ◌∙◌, arith, inl, inr, add_assoc, length-set, min, max}
-use Rattle.std.specs.List.{list_any, AllByRecursion, count_by, sum_by, filter_map, cons_option, flat_map, range_with_len}
+use Rattle.std.proofs.Common.{◌≡◌, ◌≢◌, ℕ, ◌+◌, ◌/◌, ◌<◌, Bool, true, false, cond, ◌&&◌, ◌||◌, eqb, List, [], ◌∷◌, length, fold, get_or, set, refl, sym, ap, ◌∙◌, arith, inl, inr, length-set, min, max}
+use Rattle.std.specs.List.{list_any, cons_option}
 use Rattle.std.proofs.lemmas.Bool.{cases_Bool, eqb-true, eqb-false}
 use Rattle.std.proofs.lemmas.List.Sums.{sum_by-cons}
 use Rattle.std.proofs.lemmas.List.{get_or-set_same, get_or-set_other}
@@ -10,8 +10,8 @@ use Rattle.ch_notes.specs.declared.events.NoteEvent.{NoteEvent}
 use Rattle.ch_notes.specs.declared.events.NoteEvent.TheVariants.{Struck, Released, Cleared, Other}
 use Rattle.ch_notes.specs.declared.shape.Shape.{Shape}
 use Rattle.ch_notes.specs.NoteEvent.{event_at, IsWithin, AreWithin}
-use Rattle.ch_notes.specs.Shape.{shape_step, counted, no_notes}
-use Rattle.ch_notes.specs.ChapterN.{is_struck, is_released, released_note, released, log_count, low_octet, high_octet}
+use Rattle.ch_notes.specs.Shape.{shape_step, counted}
+use Rattle.ch_notes.specs.ChapterN.{is_struck, is_released, released_note, released, log_count}
 
 step-logs : (s : Shape) (fresh : Bool) (event : NoteEvent) → (shape_step s fresh event).logs ≡ s.logs + cond (is_struck event) 1 0
 step-logs s fresh (Struck note velocity) = refl

@@ -1,5 +1,5 @@
 -- Counting the notes that stand, place by place.
-use Rattle.std.proofs.Common.{◌≡◌, ℕ, Bool, true, false, cond, List, ◌∷◌, refl, sym, ap, ◌∙◌, ◌+◌, ◌≤◌, arith, inl, inr}
+use Rattle.std.proofs.Common.{◌≡◌, ℕ, Bool, cond, List, ◌∷◌, refl, sym, ap, ◌∙◌, ◌+◌, ◌≤◌, arith, inl, inr}
 use Rattle.std.specs.List.{list_any}
 use Rattle.std.proofs.lemmas.Bool.{cases_Bool}
 use Rattle.jm_cmds.specs.declared.history.Sent.{Sent}

@@ -9,3 +9,6 @@ pub mod n;
 mod shape;
 
 pub use events::{NoteEvent, note_event};
+
+#[cfg(test)]
+mod tests;

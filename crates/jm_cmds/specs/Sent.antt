@@ -1,5 +1,5 @@
 -- The places of a session's history.
-use Rattle.std.specs.Prelude.{ℕ, ◌+◌, Bool, ◌==◌, if◌then◌else◌}
+use Rattle.std.specs.Prelude.{ℕ, ◌+◌, Bool, true, List, [], ◌∷◌, ◌==◌, nat_le, if◌then◌else◌}
 use Rattle.jm_cmds.specs.declared.history.Sent.{Sent}
 
 abbrev pub packet_of : Sent → ℕ
@@ -16,3 +16,8 @@ is_fresh packet sent = sent.packet + 1 == packet
 -- out in the packet before (RFC 6295, A.1).
 abbrev pub s_bit : ℕ → Sent → ℕ
 s_bit packet sent = if is_fresh packet sent then 0 else 128
+
+-- whether the first of these, if there is one, is in this packet or a later one
+abbrev pub first_from : ℕ → List Sent → Bool
+first_from packet [] = true
+first_from packet (next ∷ later) = nat_le packet next.packet

@@ -1,8 +1,8 @@
 //! The history of a session.
 
-ghost use Rattle.std.specs.Prelude.{◌≡◌, ◌≤◌, Bool, [], ◌∷◌, MatchOption, length, take, drop};
+ghost use Rattle.std.specs.Prelude.{◌≡◌, ◌≤◌, ◌↔◌, IsTrue, Bool, [], ◌∷◌, MatchOption, length, take, drop};
 ghost use Rattle.jm_cmds.specs.History.{InOrder, below, since, standing, coded};
-ghost use Rattle.jm_cmds.specs.Sent.{packet_of, is_fresh, s_bit};
+ghost use Rattle.jm_cmds.specs.Sent.{packet_of, is_fresh, s_bit, first_from};
 
 use crate::commands::Command;
 
@@ -40,6 +40,30 @@ pub fn first_place(places: &[Sent]) -> Option<(&Sent, &[Sent])>
     ensures { MatchOption result (places.now ≡ []) (λ parts. places.now ≡ parts.0.now ∷ parts.1.now) }
 {
     places.split_first()
+}
+
+/// Whether packets never fall along the list, as the calls on histories ask.
+pub fn in_order(list: &[Sent]) -> bool
+    ensures { IsTrue result ↔ InOrder packet_of list.now }
+{
+    let mut rest = list;
+    while let Some((place, later)) = first_place(rest) {
+        if !is_before(place, later) {
+            return false;
+        }
+        rest = later;
+    }
+    true
+}
+
+/// Whether the first of the later places, if there is one, is in no earlier packet.
+fn is_before(place: &Sent, later: &[Sent]) -> bool
+    ensures { result ≡ first_from place.now.packet later.now }
+{
+    match first_place(later) {
+        None => true,
+        Some((next, _)) => place.packet <= next.packet,
+    }
 }
 
 /// The place at which this packet begins, or would begin.

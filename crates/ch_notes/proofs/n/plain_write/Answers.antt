@@ -1,4 +1,4 @@
-use Rattle.std.proofs.Common.{◌≡◌, ◌≤◌, ◌+◌, ◌∷◌, ◌++◌, [], List, ℕ, Bool, true, false, length, ap, sym, ◌∙◌, subst, arith}
+use Rattle.std.proofs.Common.{◌≡◌, ◌≤◌, ◌+◌, List, ℕ, false, length, ap, sym, ◌∙◌, subst, arith}
 use Rattle.jm_wire.specs.Octets.{Appends, unchanged}
 use Rattle.jm_cmds.specs.declared.history.Sent.{Sent}
 use Rattle.jm_cmds.specs.History.{standing, coded, below}
@@ -6,7 +6,7 @@ use Rattle.jm_cmds.specs.Sent.{packet_of}
 use Rattle.ch_notes.specs.declared.shape.Shape.{Shape}
 use Rattle.ch_notes.specs.NoteEvent.{note_ends, AreWithin}
 use Rattle.ch_notes.specs.ChapterN.{chapter_n, logs_of}
-use Rattle.ch_notes.specs.Shape.{counted, no_notes, shaped, span, is_bare, first_field, second_field, mark_octets}
+use Rattle.ch_notes.specs.Shape.{counted, no_notes, shaped, span, is_bare}
 use Rattle.ch_notes.specs.ChapterLaws.{chapter_n-standing, shaped-bare, shaped-full, length-shaped-full}
 use Rattle.ch_notes.proofs.n.plain_write.Goals as goal
 

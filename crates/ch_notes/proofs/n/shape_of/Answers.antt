@@ -2,7 +2,6 @@ use Rattle.std.proofs.Common.{◌≡◌, ◌∷◌, [], ap, sym, subst, arith, l
 use Rattle.jm_cmds.specs.History.{standing}
 use Rattle.ch_notes.specs.NoteEvent.{AreWithin, note_ends}
 use Rattle.ch_notes.specs.Shape.{counted, no_notes}
-use Rattle.ch_notes.specs.ChapterLaws.{chapter_of-shaped}
 use Rattle.ch_notes.specs.Count.{IsCount}
 use Rattle.ch_notes.specs.CountBounds.{IsCount-counted}
 use Rattle.ch_notes.specs.ShapeLaws.{counted_more, logs_of_step, off_of_step, AreWithin-standing}

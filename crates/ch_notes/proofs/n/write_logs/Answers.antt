@@ -1,4 +1,4 @@
-use Rattle.std.proofs.Common.{◌≡◌, ◌++◌, List, ℕ, subst}
+use Rattle.std.proofs.Common.{◌++◌, List, ℕ, subst}
 use Rattle.std.specs.List.{flat_map}
 use Rattle.jm_wire.specs.Octets.{Owes, owes_less}
 use Rattle.jm_cmds.specs.History.{standing}
