@@ -10,3 +10,4 @@ pub record IsCount (s : Shape) : Type 0 where
   pub none_low : s.off ≡ 0 → s.low ≡ 15
   pub none_high : s.off ≡ 0 → s.high ≡ 0
   pub one : s.off ≡ 1 → s.low ≡ s.high
+  pub some : 1 ≤ s.off → s.low ≤ s.high

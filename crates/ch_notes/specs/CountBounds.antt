@@ -112,16 +112,28 @@ no-octet : (notes : List ℕ) → length notes ≡ 0 → (low_octet notes ≡ 15
 no-octet [] e = (refl, refl)
 no-octet (n ∷ ns) e = absurd (omega (arith, e))
 
-pub IsCount-counted : (channel packet : ℕ) (places : List Sent) → AreWithin channel (standing (note_ends channel) places) → IsCount (counted channel packet no_notes (standing (note_ends channel) places))
-IsCount-counted channel packet places w =
-    let stand = standing (note_ends channel) places in
+-- where a note is released, LOW is at most HIGH
+low-down : (start : ℕ) (notes : List ℕ) → fold (λ low note. min low (note / 8)) start notes ≤ start
+low-down start [] = omega arith
+low-down start (n ∷ ns) = omega (arith, low-down (min start (n / 8)) ns)
+
+high-up : (start : ℕ) (notes : List ℕ) → start ≤ fold (λ high note. max high (note / 8)) start notes
+high-up start [] = omega arith
+high-up start (n ∷ ns) = omega (arith, high-up (max start (n / 8)) ns)
+
+low-high : (notes : List ℕ) → 1 ≤ length notes → low_octet notes ≤ high_octet notes
+low-high [] e = absurd (omega (arith, e))
+low-high (n ∷ ns) e = omega (arith, low-down (min 15 (n / 8)) ns, high-up (max 0 (n / 8)) ns)
+
+pub IsCount-unended : (channel packet : ℕ) (places : List Sent) → Unended (note_ends channel) places → AreWithin channel places → IsCount (counted channel packet no_notes places)
+IsCount-unended channel packet stand u w =
     let notes = released channel stand in
     let below = released-below channel stand w in
     let logs = counted-logs channel packet no_notes stand in
     let off = counted-off channel packet no_notes stand in
     let low = counted-low channel packet no_notes stand in
     let high = counted-high channel packet no_notes stand in
-    let few = notes-few channel stand (Unended-standing (note_ends channel) places) w in
+    let few = notes-few channel stand u w in
     let both = logs-and-off channel stand in
     record {
       low = rw low (low-le 15 notes (omega arith));
@@ -130,4 +142,9 @@ IsCount-counted channel packet places w =
       none_low = λ e. low ∙ (no-octet notes (omega (arith, e, off))).0;
       none_high = λ e. high ∙ (no-octet notes (omega (arith, e, off))).1;
       one = λ e. low ∙ one-octet notes below (omega (arith, e, off)) ∙ sym high;
+      some = λ e. rw (low, high) (low-high notes (omega (arith, e, off)));
     }
+
+pub IsCount-counted : (channel packet : ℕ) (places : List Sent) → AreWithin channel (standing (note_ends channel) places) → IsCount (counted channel packet no_notes (standing (note_ends channel) places))
+IsCount-counted channel packet places w =
+    IsCount-unended channel packet (standing (note_ends channel) places) (Unended-standing (note_ends channel) places) w

@@ -7,3 +7,5 @@ pub mod CountLaws
 pub mod CountBounds
 pub mod BitLaws
 pub mod ChapterLaws
+pub mod Fresh
+pub mod FreshLaws

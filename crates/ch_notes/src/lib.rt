@@ -5,6 +5,7 @@
 #![tactic(auto)]
 
 mod events;
+pub mod laws;
 pub mod n;
 mod shape;
 
