@@ -1,7 +1,7 @@
-//! Chapters of the recovery journal that speak of notes: N, and later E and A (RFC 6295, A.6, A.7, A.9).
+//! Chapters of the recovery journal that speak of notes (RFC 6295, A.6).
 //!
-//! Module `n` has the plain functions of Chapter N, which look at a list of all sent commands and keep
-//! nothing. No call of this crate takes memory.
+//! Module `n` has the plain functions of Chapter N. They look at the list of all sent commands, keep
+//! nothing and take no memory.
 #![tactic(auto)]
 
 mod events;
