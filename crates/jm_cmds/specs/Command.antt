@@ -1,7 +1,7 @@
 -- Commands and their octets (RFC 6295, Appendix E, Figures E.1 and E.2).
 use Rattle.std.specs.Prelude.{ℕ, ◌+◌, ◌/◌, ◌%◌, ◌<◌, List, [], ◌∷◌, ◌++◌, slice_index}
-use Rattle.jm_cmds.specs.declared.verbs.Command.{Command}
-use Rattle.jm_cmds.specs.declared.verbs.Command.TheVariants.{NoteOff, NoteOn, PolyPressure, Control, Program, Pressure, Wheel, QuarterFrame, SongPosition, SongSelect, TuneRequest, Clock, Start, Continue, Stop, ActiveSensing, SystemReset, Sysex}
+use Rattle.jm_cmds.specs.declared.commands.Command.{Command}
+use Rattle.jm_cmds.specs.declared.commands.Command.TheVariants.{NoteOff, NoteOn, PolyPressure, Control, Program, Pressure, Wheel, QuarterFrame, SongPosition, SongSelect, TuneRequest, Clock, Start, Continue, Stop, ActiveSensing, SystemReset, Sysex}
 use Rattle.jm_cmds.specs.Data.{IsSysex}
 
 -- the one spelling of a command

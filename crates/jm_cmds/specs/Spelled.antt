@@ -1,7 +1,7 @@
 -- The octets that a `Spelled` stands for.
 use Rattle.std.specs.Prelude.{ℕ, List, [], ◌∷◌, ◌++◌}
-use Rattle.jm_cmds.specs.declared.verbs.Spelled.{Spelled}
-use Rattle.jm_cmds.specs.declared.verbs.Spelled.TheVariants.{One, Two, Three, Message}
+use Rattle.jm_cmds.specs.declared.commands.Spelled.{Spelled}
+use Rattle.jm_cmds.specs.declared.commands.Spelled.TheVariants.{One, Two, Three, Message}
 
 abbrev pub octets_of : Spelled → List ℕ
 octets_of (One status) = status ∷ []

@@ -6,16 +6,22 @@
 //! running status or of packets: those stand in the crates above.
 #![tactic(auto)]
 
+mod commands;
+mod controls;
+mod history;
+pub mod laws;
 mod numbers;
 mod outcome;
 mod reading;
-mod sent;
 mod system_exclusive;
-mod verbs;
 
+pub use commands::{Command, Spelled};
+pub use controls::ControlKind;
+pub use history::{Sent, checkpoint_history, first_place, in_order, place_of, session_history};
 pub use numbers::{Channel, D7, D14};
 pub use outcome::ReadError;
 pub use reading::{CmdFault, read_command};
-pub use sent::Sent;
 pub use system_exclusive::{Sysex, SysexFault};
-pub use verbs::{Command, Spelled};
+
+#[cfg(test)]
+mod tests;

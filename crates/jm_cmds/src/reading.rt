@@ -4,10 +4,10 @@ ghost use Rattle.std.specs.Prelude.{◌≡◌, ◌-◌, ◌<◌, ◌≤◌, drop
 ghost use Rattle.jm_cmds.specs.Gives.{Gives};
 ghost use Rattle.jm_cmds.specs.Reading.{command_read, one_data, two_data, channel_read, system_read, message_read};
 
+use crate::commands::Command;
 use crate::numbers::{Channel, D7, D14};
 use crate::outcome::ReadError;
 use crate::system_exclusive::{Sysex, data_len};
-use crate::verbs::Command;
 use std::alloc::Global;
 use thiserror::Error;
 

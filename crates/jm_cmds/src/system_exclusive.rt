@@ -58,7 +58,7 @@ impl Sysex {
 
     /// A message of these data octets. It is `BadData` at the first octet over 0x7F, else `TooLong`
     /// exactly where there are over 2,046 of them.
-    #[tactic(auto, using(crate::proofs::DataOctets::on_data))]
+    #[tactic(auto, using(crate::specs::DataLaws::on_data))]
     pub fn new(octets: &[u8], alloc: Global) -> Result<Sysex, ReadError<SysexFault>>
         ensures { Gives result (sysex_made octets.now) }
     {
@@ -115,4 +115,26 @@ impl Sysex {
             octets: Vec::from_slice(alloc, self.octets.as_slice())?,
         })
     }
+}
+
+impl PartialEq for Sysex {
+    ghost use Rattle.std.specs.Prelude.{nat_eq};
+    ghost use Rattle.std.proofs.Common.{rules};
+    ghost use Rattle.std.specs.Cmp.Lexicographic.{pointwise};
+    ghost use Rattle.std.specs.Cmp.Rules.{comparing};
+
+    ghost eq = { pointwise nat_eq };
+
+    ghost laws = { Prim.search (comparing, rules) };
+
+    fn eq(&self, other: &Sysex) -> bool {
+        self.as_slice() == other.as_slice()
+    }
+}
+
+impl Eq for Sysex {
+    ghost use Rattle.std.proofs.Common.{rules};
+    ghost use Rattle.std.specs.Cmp.Rules.{comparing};
+
+    ghost laws = { Prim.search (comparing, rules) };
 }

@@ -1,5 +1,5 @@
 use Rattle.std.proofs.Common.{arith}
-use Rattle.jm_cmds.proofs.DataOctets.{IsSysex-front}
+use Rattle.jm_cmds.specs.DataLaws.{IsSysex-front}
 use Rattle.jm_cmds.proofs.reading.message.Goals as goal
 
 pub of-requires : goal.of-requires

@@ -1,4 +1,4 @@
--- The data octets at the front.
+-- What holds of the data octets at the front.
 use Rattle.std.proofs.Common.{◌≡◌, ◌≤◌, ◌∷◌, [], ℕ, List, ltb, take, length, refl, arith, add-one, add_comm, inl, inr}
 use Rattle.std.proofs.Math.Seq.{take-length}
 use Rattle.std.proofs.lemmas.Bool.{cases_Bool}
@@ -9,8 +9,9 @@ pub IsData-front : (xs : List ℕ) → IsData (take (data_len xs) xs)
 IsData-front [] = refl
 IsData-front (x ∷ xs) =
     elim (cases_Bool (ltb x 128)) [
-      inl t ↦ rw (t, add_comm 1 (data_len xs), add-one) (rw t (IsData-front xs))
-    | inr f ↦ rw f refl ]
+      | inl t ↦ rw (t, add_comm 1 (data_len xs), add-one) (rw t (IsData-front xs))
+      | inr f ↦ rw f refl
+    ]
 
 pub IsData-whole : (xs : List ℕ) → length xs ≤ data_len xs → data_len xs ≤ length xs → IsData xs
 IsData-whole xs a b =

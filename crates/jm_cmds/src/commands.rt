@@ -12,7 +12,7 @@ use std::alloc::{AllocError, Global};
 ///
 /// A `NoteOn` of velocity 0 counts everywhere as a `NoteOff` of velocity 64 (RFC 6295, A.6), but is
 /// spelled as it is.
-#[derive(Debug, Drop)]
+#[derive(PartialEq, Eq, Debug, Drop)]
 pub enum Command {
     /// A note is released: 8c nn vv.
     NoteOff {
