@@ -28,7 +28,7 @@ reads_all n place bare running rest = record { gives = same (items_read n place 
     same (Ok items) = refl
     same (Err f) = refl
 
-regroup : (front : List Item) (item : Item) (read : Result (List Item) SectionFault) → with_front front (read >>= λ items. Ok (item ∷ items)) ≡ with_front (front ++ item ∷ []) read
+pub regroup : (front : List Item) (item : Item) (read : Result (List Item) SectionFault) → with_front front (read >>= λ items. Ok (item ∷ items)) ≡ with_front (front ++ item ∷ []) read
 regroup front item (Ok items) = ap (λ (all : List Item). Ok all) (simp append_assoc)
 regroup front item (Err f) = refl
 

@@ -86,15 +86,21 @@ pub data SpellsHead : List ℕ → Head → Type 0 where
   long_head : (first low : ℕ) → 0x80 ≤ first
       → SpellsHead (first ∷ low ∷ []) (record { size = 2; len = first % 16 * 256 + low; journal = is_set 0x40 first; bare = if is_set 0x20 first then false else true })
 
--- these octets begin with a section of these items
-pub record IsSection (octets : List ℕ) (items : List Item) (journal : Bool) (used : ℕ) : Type 0 where
+-- what a section holds, and the number of its octets
+pub record Read : Type 0 where
+  pub items : List Item
+  pub journal : Bool
+  pub used : ℕ
+
+-- these octets begin with this section
+pub record IsSection (octets : List ℕ) (section : Read) : Type 0 where
+  pub head : Head
   pub head_text : List ℕ
   pub list : List ℕ
   pub rest : List ℕ
-  pub head : Head
   pub split : octets ≡ head_text ++ (list ++ rest)
   pub headed : SpellsHead head_text head
-  pub listed : SpellsList head.bare list items
+  pub listed : SpellsList head.bare list section.items
   pub len_is : length list ≡ head.len
-  pub journal_is : journal ≡ head.journal
-  pub used_is : used ≡ head.size + head.len
+  pub journal_is : section.journal ≡ head.journal
+  pub used_is : section.used ≡ length head_text + length list

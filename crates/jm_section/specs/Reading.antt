@@ -18,7 +18,7 @@ use Rattle.jm_section.specs.declared.item.PartKind.{PartKind}
 use Rattle.jm_section.specs.declared.item.PartKind.TheVariants.{First, Middle, Last, Cancel}
 use Rattle.jm_section.specs.declared.reading.SectionFault.{SectionFault}
 use Rattle.jm_section.specs.declared.reading.SectionFault.TheVariants.{Short, NoStatus, BadCommand, BadDelta}
-use Rattle.jm_section.specs.Grammar.{is_passed, running_behind, is_set}
+use Rattle.jm_section.specs.Grammar.{is_passed, running_behind, is_set, Read}
 use Rattle.jm_section.specs.declared.header.Head.{Head}
 use Rattle.jm_section.specs.declared.reading.Section.{Section}
 
@@ -120,11 +120,6 @@ head_read (first ∷ []) = if nat_lt first 0x80 then Ok (head_of first 1 (first 
 head_read (first ∷ low ∷ rest) = if nat_lt first 0x80 then Ok (head_of first 1 (first % 16)) else Ok (head_of first 2 (first % 16 * 256 + low))
 
 -- a section as it is read
-pub record Read : Type 0 where
-  pub items : List Item
-  pub journal : Bool
-  pub used : ℕ
-
 abbrev pub section_view : Section → Read
 section_view s = record { items = s.items.items; journal = s.journal; used = s.used }
 

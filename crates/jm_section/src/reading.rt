@@ -1,11 +1,11 @@
 //! Reading a whole section.
 
-ghost use Rattle.std.specs.Prelude.{◌≡◌, ◌+◌, ◌<◌, ◌≤◌, ◌∷◌, length, take, drop, None, IfOk, IfSome};
+ghost use Rattle.std.specs.Prelude.{◌≡◌, ◌+◌, ◌<◌, ◌≤◌, ◌∷◌, length, take, drop, None, Ok, IfOk, IfSome};
 ghost use Rattle.jm_cmds.specs.Data.{data_len};
 ghost use Rattle.jm_cmds.specs.Gives.{Gives};
 ghost use Rattle.jm_cmds.specs.Reading.{command_read};
-ghost use Rattle.jm_section.specs.Grammar.{running_behind};
-ghost use Rattle.jm_section.specs.Reading.{GivesBy, Read, head_of, whole, place_less, under_running, exclusive_read, delta_read, what_read, item_read, items_read, head_read, section_read, section_view};
+ghost use Rattle.jm_section.specs.Grammar.{running_behind, Read, IsSection};
+ghost use Rattle.jm_section.specs.Reading.{GivesBy, head_of, whole, place_less, under_running, exclusive_read, delta_read, what_read, item_read, items_read, head_read, section_read, section_view};
 
 use crate::header::read_head;
 use crate::item::{Item, PartKind, What};
@@ -303,6 +303,11 @@ fn section_at(b: &[u8], alloc: Global) -> Result<Section, ReadError<SectionFault
 /// `SectionFault` says when each fault comes: `Short` where the header or the MIDI list ends too soon,
 /// before all others, and then the fault with the least place.
 pub fn read_section(b: &[u8], alloc: Global) -> Result<Section, ReadError<SectionFault>>
+    // What is read stands at the front.
+    ensures read { IfOk result (λ s. IsSection b.now (section_view s)) }
+    // What stands at the front is read, unless memory is refused.
+    ensures only { (section : Read) → IsSection b.now section → GivesBy section_view result (Ok section) }
+    // Which fault it is.
     ensures exact { GivesBy section_view result (section_read b.now) }
 {
     section_at(b, alloc)
