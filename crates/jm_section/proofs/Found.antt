@@ -1,8 +1,8 @@
 -- What is read is spelled by the grammar.
-use Rattle.std.proofs.Common.{◌≡◌, ℕ, zero, suc, ◌-◌, ◌+◌, ◌≤◌, ◌<◌, Bool, true, false, cond, eqb, ltb, List, [], ◌∷◌, ◌++◌, drop, take, get_or, length, Option, Some, None, Result, Ok, Err, refl, sym, ap, subst, ◌∙◌, append_assoc, length-append, add-one, add_comm, arith, inl, inr, drop-cons, length-drop}
-use Rattle.std.specs.Prelude.{IsTrue, ◌⊎◌, ◌||◌}
-use Rattle.std.proofs.lemmas.Bool.{lt-ltb, le-ltb, ltb-true, ltb-false, eqb-true, eqb-false, ne_eqb, cases_Bool, cases_lt, or_cases, or_parts}
-use Rattle.std.proofs.lemmas.List.{append-nil, take-append-drop, length-take-le}
+use Rattle.std.proofs.Common.{◌≡◌, ℕ, suc, ◌-◌, ◌+◌, ◌≤◌, ◌<◌, false, eqb, ltb, List, [], ◌∷◌, ◌++◌, drop, take, get_or, length, Option, Some, None, Result, Ok, Err, refl, sym, ap, subst, ◌∙◌, append_assoc, length-append, add-one, arith, inl, inr, drop-cons, length-drop}
+use Rattle.std.specs.Prelude.{IsTrue}
+use Rattle.std.proofs.lemmas.Bool.{ltb-true, eqb-true, eqb-false, cases_Bool}
+use Rattle.std.proofs.lemmas.List.{take-append-drop, length-take-le}
 use Rattle.std.proofs.lemmas.List.Sums.{prefix_len-le-length}
 use Rattle.jm_cmds.specs.declared.commands.Command.{Command}
 use Rattle.jm_cmds.specs.declared.commands.Command.TheVariants.{NoteOff, NoteOn, PolyPressure, Control, Program, Pressure, Wheel, QuarterFrame, SongPosition, SongSelect, TuneRequest, Clock, Start, Continue, Stop, ActiveSensing, SystemReset, Sysex}
@@ -12,7 +12,7 @@ use Rattle.jm_cmds.specs.Command.{spelling, status_of, IsCommand}
 use Rattle.jm_cmds.specs.Data.{is_data, IsData, data_len}
 use Rattle.jm_cmds.specs.DataLaws.{IsData-front}
 use Rattle.jm_cmds.specs.Reading.{command_read}
-use Rattle.jm_cmds.specs.CommandLaws.{BeginsWith, BeginsWith-command_read}
+use Rattle.jm_cmds.specs.CommandLaws.{BeginsWith-command_read}
 use Rattle.jm_section.specs.declared.item.What.{What}
 use Rattle.jm_section.specs.declared.item.What.TheVariants.{Whole, Part, Passed}
 use Rattle.jm_section.specs.declared.item.PartKind.{PartKind}
@@ -20,7 +20,7 @@ use Rattle.jm_section.specs.declared.item.PartKind.TheVariants.{First, Middle, L
 use Rattle.jm_section.specs.declared.reading.SectionFault.{SectionFault}
 use Rattle.jm_section.specs.declared.reading.SectionFault.TheVariants.{NoStatus, BadCommand}
 use Rattle.jm_section.specs.Grammar.{is_passed, IsSegment, first_part, middle_part, last_part, cancel_first, cancel_other, SpellsWhat, with_status, without_status, passed, passed_long, segment}
-use Rattle.jm_section.specs.Reading.{whole, one_less, under_running, exclusive_ended, exclusive_read, what_read}
+use Rattle.jm_section.specs.Reading.{whole, one_less, under_running, exclusive_read, what_read}
 
 abbrev got : What × ℕ → Result (What × ℕ) SectionFault
 got read = Ok read
@@ -198,24 +198,24 @@ begins_f0 place running rest what used h =
     elim (cases_Bool (eqb n (length rest))) [
       | inl t ↦ not_refused (BadCommand place commands.Short) (what, used) (rw t at h)
       | inr some ↦ elim (cases_Bool (eqb last 0xf4)) [
+        | inl t ↦
+            let is : 0xf4 ≡ last = sym (eqb-true last 0xf4 t) in
+            at_item running (0xf0 ∷ rest) (Part Cancel n) what (n + 2) used (segment_found Cancel running 0xf0 0xf4 rest (is_ended 0xf0 rest some) is cancel_first) (rw (some, t) at h)
+        | inr f4 ↦ elim (cases_Bool (eqb last 0xf0)) [
           | inl t ↦
-              let is : 0xf4 ≡ last = sym (eqb-true last 0xf4 t) in
-              at_item running (0xf0 ∷ rest) (Part Cancel n) what (n + 2) used (segment_found Cancel running 0xf0 0xf4 rest (is_ended 0xf0 rest some) is cancel_first) (rw (some, t) at h)
-          | inr f4 ↦ elim (cases_Bool (eqb last 0xf0)) [
-              | inl t ↦
-                  let is : 0xf0 ≡ last = sym (eqb-true last 0xf0 t) in
-                  at_item running (0xf0 ∷ rest) (Part First n) what (n + 2) used (segment_found First running 0xf0 0xf0 rest (is_ended 0xf0 rest some) is first_part) (rw (some, f4, t) at h)
-              | inr f0 ↦ elim (cases_Bool (eqb last 0xf7)) [
-                  | inl t ↦ elim (cases_Bool (ltb 2046 n)) [
-                      | inl long ↦
-                          let is : 0xf7 ≡ last = sym (eqb-true last 0xf7 t) in
-                          at_item running (0xf0 ∷ rest) (Passed 0xf0) what (n + 2) used (long_found running rest (is_ended 0xf0 rest some) is (ltb-true 2046 n long)) (rw (some, f4, f0, t, long) at h)
-                      | inr few ↦ whole_found place running (0xf0 ∷ rest) what used (command_read (0xf0 ∷ rest)) refl (rw (some, f4, f0, t, few) at h)
-                    ]
-                  | inr f7 ↦ not_refused (BadCommand place (commands.BadData (n + 1))) (what, used) (rw (some, f4, f0, f7) at h)
-                ]
+              let is : 0xf0 ≡ last = sym (eqb-true last 0xf0 t) in
+              at_item running (0xf0 ∷ rest) (Part First n) what (n + 2) used (segment_found First running 0xf0 0xf0 rest (is_ended 0xf0 rest some) is first_part) (rw (some, f4, t) at h)
+          | inr f0 ↦ elim (cases_Bool (eqb last 0xf7)) [
+            | inl t ↦ elim (cases_Bool (ltb 2046 n)) [
+              | inl long ↦
+                  let is : 0xf7 ≡ last = sym (eqb-true last 0xf7 t) in
+                  at_item running (0xf0 ∷ rest) (Passed 0xf0) what (n + 2) used (long_found running rest (is_ended 0xf0 rest some) is (ltb-true 2046 n long)) (rw (some, f4, f0, t, long) at h)
+              | inr few ↦ whole_found place running (0xf0 ∷ rest) what used (command_read (0xf0 ∷ rest)) refl (rw (some, f4, f0, t, few) at h)
             ]
+            | inr f7 ↦ not_refused (BadCommand place (commands.BadData (n + 1))) (what, used) (rw (some, f4, f0, f7) at h)
+          ]
         ]
+      ]
     ]
 
 begins_f7 : (place : ℕ) (running : Option ℕ) (rest : List ℕ) (what : What) (used : ℕ) → exclusive_read place (0xf7 ∷ rest) ≡ got (what, used) → ReadsWhat running (0xf7 ∷ rest) what used
@@ -225,21 +225,21 @@ begins_f7 place running rest what used h =
     elim (cases_Bool (eqb n (length rest))) [
       | inl t ↦ not_refused (BadCommand place commands.Short) (what, used) (rw t at h)
       | inr some ↦ elim (cases_Bool (eqb last 0xf4)) [
+        | inl t ↦
+            let is : 0xf4 ≡ last = sym (eqb-true last 0xf4 t) in
+            at_item running (0xf7 ∷ rest) (Part Cancel n) what (n + 2) used (segment_found Cancel running 0xf7 0xf4 rest (is_ended 0xf7 rest some) is cancel_other) (rw (some, t) at h)
+        | inr f4 ↦ elim (cases_Bool (eqb last 0xf0)) [
           | inl t ↦
-              let is : 0xf4 ≡ last = sym (eqb-true last 0xf4 t) in
-              at_item running (0xf7 ∷ rest) (Part Cancel n) what (n + 2) used (segment_found Cancel running 0xf7 0xf4 rest (is_ended 0xf7 rest some) is cancel_other) (rw (some, t) at h)
-          | inr f4 ↦ elim (cases_Bool (eqb last 0xf0)) [
-              | inl t ↦
-                  let is : 0xf0 ≡ last = sym (eqb-true last 0xf0 t) in
-                  at_item running (0xf7 ∷ rest) (Part Middle n) what (n + 2) used (segment_found Middle running 0xf7 0xf0 rest (is_ended 0xf7 rest some) is middle_part) (rw (some, f4, t) at h)
-              | inr f0 ↦ elim (cases_Bool (eqb last 0xf7)) [
-                  | inl t ↦
-                      let is : 0xf7 ≡ last = sym (eqb-true last 0xf7 t) in
-                      at_item running (0xf7 ∷ rest) (Part Last n) what (n + 2) used (segment_found Last running 0xf7 0xf7 rest (is_ended 0xf7 rest some) is last_part) (rw (some, f4, f0, t) at h)
-                  | inr f7 ↦ not_refused (BadCommand place (commands.BadData (n + 1))) (what, used) (rw (some, f4, f0, f7) at h)
-                ]
-            ]
+              let is : 0xf0 ≡ last = sym (eqb-true last 0xf0 t) in
+              at_item running (0xf7 ∷ rest) (Part Middle n) what (n + 2) used (segment_found Middle running 0xf7 0xf0 rest (is_ended 0xf7 rest some) is middle_part) (rw (some, f4, t) at h)
+          | inr f0 ↦ elim (cases_Bool (eqb last 0xf7)) [
+            | inl t ↦
+                let is : 0xf7 ≡ last = sym (eqb-true last 0xf7 t) in
+                at_item running (0xf7 ∷ rest) (Part Last n) what (n + 2) used (segment_found Last running 0xf7 0xf7 rest (is_ended 0xf7 rest some) is last_part) (rw (some, f4, f0, t) at h)
+            | inr f7 ↦ not_refused (BadCommand place (commands.BadData (n + 1))) (what, used) (rw (some, f4, f0, f7) at h)
+          ]
         ]
+      ]
     ]
 
 -- ## Every item
@@ -260,17 +260,17 @@ what_found place running first rest what used r h =
     elim (cases_Bool (ltb first 128)) [
       | inl t ↦ low_found place running (first ∷ rest) what used r (rw t at h)
       | inr high ↦ elim (cases_Bool (eqb first 0xf0)) [
+        | inl t ↦
+            let is : 0xf0 ≡ first = sym (eqb-true first 0xf0 t) in
+            subst (λ (o : ℕ). ReadsWhat running (o ∷ rest) what used) is (begins_f0 place running rest what used (rw (sym is) at (rw (high, t) at h)))
+        | inr f0 ↦ elim (cases_Bool (eqb first 0xf7)) [
           | inl t ↦
-              let is : 0xf0 ≡ first = sym (eqb-true first 0xf0 t) in
-              subst (λ (o : ℕ). ReadsWhat running (o ∷ rest) what used) is (begins_f0 place running rest what used (rw (sym is) at (rw (high, t) at h)))
-          | inr f0 ↦ elim (cases_Bool (eqb first 0xf7)) [
-              | inl t ↦
-                  let is : 0xf7 ≡ first = sym (eqb-true first 0xf7 t) in
-                  subst (λ (o : ℕ). ReadsWhat running (o ∷ rest) what used) is (begins_f7 place running rest what used (rw (high, f0, t) at h))
-              | inr f7 ↦ elim (cases_Bool (is_passed first)) [
-                  | inl t ↦ passed_found running first rest what used t (rw (high, f0, f7, t) at h)
-                  | inr other ↦ whole_found place running (first ∷ rest) what used (command_read (first ∷ rest)) refl (rw (high, f0, f7, other) at h)
-                ]
-            ]
+              let is : 0xf7 ≡ first = sym (eqb-true first 0xf7 t) in
+              subst (λ (o : ℕ). ReadsWhat running (o ∷ rest) what used) is (begins_f7 place running rest what used (rw (high, f0, t) at h))
+          | inr f7 ↦ elim (cases_Bool (is_passed first)) [
+            | inl t ↦ passed_found running first rest what used t (rw (high, f0, f7, t) at h)
+            | inr other ↦ whole_found place running (first ∷ rest) what used (command_read (first ∷ rest)) refl (rw (high, f0, f7, other) at h)
+          ]
         ]
+      ]
     ]

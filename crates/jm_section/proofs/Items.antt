@@ -1,17 +1,15 @@
 -- One item of a list: what is spelled is read, and what is read is spelled.
-use Rattle.std.proofs.Common.{◌≡◌, ℕ, zero, suc, ◌-◌, ◌+◌, ◌≤◌, ◌<◌, Bool, true, false, not, cond, eqb, ltb, List, [], ◌∷◌, ◌++◌, drop, take, get_or, length, Option, Some, None, Result, Ok, Err, refl, sym, ap, subst, ◌∙◌, append_assoc, length-append, length-drop, drop-cons, add-one, add_comm, arith, inl, inr}
-use Rattle.std.specs.Prelude.{IsTrue, ◌⊎◌}
+use Rattle.std.proofs.Common.{◌≡◌, ℕ, suc, ◌+◌, ◌≤◌, ◌<◌, Bool, true, false, not, cond, eqb, List, [], ◌∷◌, ◌++◌, drop, take, get_or, length, Option, Some, None, Result, Ok, Err, refl, sym, ap, subst, ◌∙◌, append_assoc, length-append, length-drop, drop-cons, arith, inl, inr}
 use Rattle.std.proofs.Math.Seq.{take-length}
 use Rattle.std.proofs.lemmas.Bool.{eqb-true, eqb-false, eq-eqb, ne_eqb, cases_Bool}
 use Rattle.std.proofs.lemmas.List.{append-nil, nil_from_length, take-append-drop, length-take-le}
 use Rattle.jm_cmds.specs.Command.{spelling}
 use Rattle.jm_wire.specs.declared.delta.DeltaFault.{DeltaFault}
-use Rattle.jm_wire.specs.Delta.{value, delta_at, IsField, IsReadAs}
+use Rattle.jm_wire.specs.Delta.{value, delta_at, IsField}
 use Rattle.jm_wire.specs.DeltaReading.{field_is_read, read_as}
 use Rattle.jm_section.specs.declared.item.Item.{Item}
 use Rattle.jm_section.specs.declared.item.What.{What}
 use Rattle.jm_section.specs.declared.reading.SectionFault.{SectionFault}
-use Rattle.jm_section.specs.declared.reading.SectionFault.TheVariants.{BadDelta}
 use Rattle.jm_section.specs.Grammar.{SpellsWhat, with_status, without_status, passed, passed_long, segment, SpellsDelta, no_field, field}
 use Rattle.jm_section.specs.Reading.{◌>>=◌, what_read, field_read, delta_read, item_read}
 use Rattle.jm_section.proofs.Spelled.{what_spelled}
@@ -41,8 +39,14 @@ item_spelled place has running lead text rest delta what d w =
     let some = what_some running text what w in
     let joined : (lead ++ text) ++ rest ≡ lead ++ (text ++ rest) = append_assoc lead text rest in
     let len : length (lead ++ (text ++ rest)) ≡ length lead + (length text + length rest) = simp length-append in
-    rw (joined, ne_eqb (length (lead ++ (text ++ rest))) 0 (λ e. omega arith), delta_spelled place has lead delta (text ++ rest) d,
-    ne_eqb (length (lead ++ (text ++ rest))) (length lead) (λ e. omega arith), drop_front lead (text ++ rest), what_spelled (place + length lead) running text what rest w) refl
+    rw (
+      joined,
+      ne_eqb (length (lead ++ (text ++ rest))) 0 (λ e. omega arith),
+      delta_spelled place has lead delta (text ++ rest) d,
+      ne_eqb (length (lead ++ (text ++ rest))) (length lead) (λ e. omega arith),
+      drop_front lead (text ++ rest),
+      what_spelled (place + length lead) running text what rest w,
+    ) refl
   where
     drop_front : (xs ys : List ℕ) → drop (length xs) (xs ++ ys) ≡ ys
     drop_front [] ys = refl

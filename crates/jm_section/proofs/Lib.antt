@@ -5,3 +5,4 @@ pub mod Found
 pub mod Items
 pub mod Lists
 pub mod Sections
+pub mod Written

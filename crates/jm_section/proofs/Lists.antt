@@ -1,16 +1,14 @@
 -- Whole lists: what is spelled is read, and what is read is spelled.
-use Rattle.std.proofs.Common.{◌≡◌, ℕ, zero, suc, ◌-◌, ◌+◌, ◌≤◌, ◌<◌, Bool, true, false, not, cond, eqb, ltb, List, [], ◌∷◌, ◌++◌, drop, take, length, Option, Some, None, Result, Ok, Err, refl, sym, ap, subst, ◌∙◌, append_assoc, length-append, length-drop, add-one, arith, inl, inr}
-use Rattle.std.specs.Prelude.{IsTrue}
-use Rattle.std.proofs.lemmas.Bool.{ltb-true, cases_Bool, cases_lt}
+use Rattle.std.proofs.Common.{◌≡◌, ℕ, zero, suc, ◌-◌, ◌+◌, ◌≤◌, Bool, true, false, not, ltb, List, [], ◌∷◌, ◌++◌, drop, length, Option, Some, None, Result, Ok, Err, refl, sym, ap, subst, ◌∙◌, append_assoc, length-append, arith, inl, inr}
+use Rattle.std.proofs.lemmas.Bool.{ltb-true, cases_Bool}
 use Rattle.std.proofs.lemmas.List.{append-nil, nil_from_length}
 use Rattle.jm_cmds.specs.Command.{status_of}
-use Rattle.jm_wire.specs.Delta.{IsField}
 use Rattle.jm_section.specs.declared.item.Item.{Item}
 use Rattle.jm_section.specs.declared.item.What.{What}
 use Rattle.jm_section.specs.declared.item.What.TheVariants.{Whole, Part, Passed}
 use Rattle.jm_section.specs.declared.reading.SectionFault.{SectionFault}
 use Rattle.jm_section.specs.Running.{running_after}
-use Rattle.jm_section.specs.Grammar.{SpellsWhat, SpellsDelta, Spells, nothing, one_more, SpellsList, ends_with_item, ends_with_delta, has_field, running_behind, running_from, running_of}
+use Rattle.jm_section.specs.Grammar.{SpellsDelta, Spells, nothing, one_more, SpellsList, ends_with_item, ends_with_delta, has_field, running_behind, running_from, running_of}
 use Rattle.jm_section.specs.Reading.{◌>>=◌, before_others, item_read, items_read}
 use Rattle.jm_section.proofs.Loop.{with_front, regroup}
 use Rattle.jm_section.proofs.Found.{IsRunning}
@@ -37,11 +35,11 @@ running_from-running : (running : Option ℕ) (items : List Item) → IsRunning 
 running_from-running running [] h = h
 running_from-running running (item ∷ items) h = running_from-running (running_behind running item.what) items (running_behind-running running item.what h)
 
-running_from-push : (running : Option ℕ) (items : List Item) (item : Item) → running_from running (items ++ item ∷ []) ≡ running_behind (running_from running items) item.what
+pub running_from-push : (running : Option ℕ) (items : List Item) (item : Item) → running_from running (items ++ item ∷ []) ≡ running_behind (running_from running items) item.what
 running_from-push running [] item = refl
 running_from-push running (first ∷ items) item = running_from-push (running_behind running first.what) items item
 
-has_field-push : (bare : Bool) (items : List Item) (item : Item) → has_field bare (items ++ item ∷ []) ≡ true
+pub has_field-push : (bare : Bool) (items : List Item) (item : Item) → has_field bare (items ++ item ∷ []) ≡ true
 has_field-push bare [] item = refl
 has_field-push bare (first ∷ items) item = refl
 
@@ -84,9 +82,9 @@ resumes bare front items (one_more fore before lead text delta what s d w) m pla
     let step = items_read-step m at (not has) running ((lead ++ text) ++ rest) item (length lead + length text) (item_spelled at has running lead text rest delta what d w) in
     let later = items_read m (at + (length lead + length text)) false (running_behind running what) rest in
     let one : items_read (length (before ++ item ∷ []) + m) place bare None ((fore ++ (lead ++ text)) ++ rest) ≡ with_front before (items_read (suc m) at (not has) running ((lead ++ text) ++ rest)) =
-      rw (count, joined) (resumes bare fore before s (suc m) place ((lead ++ text) ++ rest)) in
+    rw (count, joined) (resumes bare fore before s (suc m) place ((lead ++ text) ++ rest)) in
     let two : with_front before (items_read (suc m) at (not has) running ((lead ++ text) ++ rest)) ≡ with_front (before ++ item ∷ []) later =
-      rw (step, left) (regroup before item later) in
+    rw (step, left) (regroup before item later) in
     one ∙ two ∙ rw (place_is, has_field-push bare before item, running_from-push None before item) refl
 
 items_few : (bare : Bool) (front : List ℕ) (items : List Item) → Spells bare front items → length items ≤ length front
@@ -112,7 +110,7 @@ list_spelled bare octets items place (ends_with_item front all s) =
     let count : length front ≡ length all + m = omega arith in
     let whole : front ≡ front ++ [] = sym (append-nil front) in
     let one : items_read (length all + m) place bare None (front ++ []) ≡ items_are (all ++ []) =
-      resumes bare front all s m place [] ∙ ap (with_front all) (nothing_left m (place + length front) (not (has_field bare all)) (running_of all)) in
+    resumes bare front all s m place [] ∙ ap (with_front all) (nothing_left m (place + length front) (not (has_field bare all)) (running_of all)) in
     ap (λ (n : ℕ). items_read n place bare None front) count ∙ ap (items_read (length all + m) place bare None) whole ∙ one ∙ ap items_are (append-nil all)
 list_spelled bare octets items place (ends_with_delta front text all s has h) =
     let m = length (front ++ text) - length all in
@@ -122,7 +120,7 @@ list_spelled bare octets items place (ends_with_delta front text all s has h) =
     let behind : not (has_field bare all) ≡ false = ap not has in
     let ended : items_read m (place + length front) false (running_of all) text ≡ items_are [] = ends_there m (place + length front) false (running_of all) text (field_ends (place + length front) (running_of all) text h) in
     let one : items_read (length all + m) place bare None (front ++ text) ≡ items_are (all ++ []) =
-      resumes bare front all s m place text ∙ rw behind (ap (with_front all) ended) in
+    resumes bare front all s m place text ∙ rw behind (ap (with_front all) ended) in
     ap (λ (n : ℕ). items_read n place bare None (front ++ text)) count ∙ one ∙ ap items_are (append-nil all)
 
 -- ## What is read is spelled
@@ -172,7 +170,7 @@ some_more n place bare front before rest items item used later s few e h =
     let left : drop used rest ≡ r.rest = ap (drop used) r.split ∙ drop_front text r.rest used r.used_is in
     let o = first_of item (items_read n (place + used) false (running_behind running item.what) (drop used rest)) items h in
     let behind : items_read n (place + used) (not (has_field bare (before ++ item ∷ []))) (running_of (before ++ item ∷ [])) r.rest ≡ items_are o.0 =
-      rw (has_field-push bare before item, running_from-push None before item, ← left) o.1 in
+    rw (has_field-push bare before item, running_from-push None before item, ← left) o.1 in
     let len : length rest ≡ length text + length r.rest = ap length r.split ∙ length-append text r.rest in
     let all = later (place + used) (front ++ text) (before ++ item ∷ []) r.rest o.0 (joins bare front before rest item used s r) (omega (arith, r.some, r.used_is)) behind in
     let octets_are : (front ++ text) ++ r.rest ≡ front ++ rest = append_assoc front text r.rest ∙ ap (λ (t : List ℕ). front ++ t) (sym r.split) in

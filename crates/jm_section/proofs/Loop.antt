@@ -1,5 +1,5 @@
 -- Reading items one after the other, as a loop does.
-use Rattle.std.proofs.Common.{◌≡◌, ℕ, zero, suc, ◌-◌, ◌+◌, ◌≤◌, ◌<◌, Bool, true, false, List, [], ◌∷◌, ◌++◌, drop, length, Option, Some, None, Result, Ok, Err, refl, sym, ap, ◌∙◌, append_assoc, length-drop, arith}
+use Rattle.std.proofs.Common.{◌≡◌, ℕ, suc, ◌-◌, ◌+◌, ◌≤◌, ◌<◌, Bool, false, List, [], ◌∷◌, ◌++◌, drop, length, Option, Some, None, Result, Ok, Err, refl, sym, ap, ◌∙◌, append_assoc, length-drop, arith}
 use Rattle.std.proofs.lemmas.List.{append-nil}
 use Rattle.jm_cmds.specs.declared.outcome.ReadError.{ReadError}
 use Rattle.jm_cmds.specs.declared.outcome.ReadError.TheVariants as errors
@@ -7,7 +7,7 @@ use Rattle.jm_cmds.specs.Gives.{Gives}
 use Rattle.jm_section.specs.declared.item.Item.{Item}
 use Rattle.jm_section.specs.declared.reading.SectionFault.{SectionFault}
 use Rattle.jm_section.specs.Grammar.{running_behind}
-use Rattle.jm_section.specs.Reading.{◌>>=◌, before_others, item_read, items_read}
+use Rattle.jm_section.specs.Reading.{◌>>=◌, item_read, items_read}
 
 abbrev pub failed : {A : Type 0} → ReadError SectionFault → Result A (ReadError SectionFault)
 failed e = Err e

@@ -1,5 +1,5 @@
 -- Whole sections: what is spelled is read, and what is read is spelled.
-use Rattle.std.proofs.Common.{◌≡◌, ℕ, ◌+◌, ◌-◌, ◌*◌, ◌%◌, ◌≤◌, ◌<◌, Bool, true, false, cond, ltb, List, [], ◌∷◌, ◌++◌, drop, take, length, Option, Some, None, Result, Ok, Err, refl, sym, ap, subst, ◌∙◌, append_assoc, length-append, length-drop, arith, inl, inr}
+use Rattle.std.proofs.Common.{◌≡◌, ℕ, ◌+◌, ◌*◌, ◌%◌, ◌≤◌, ◌<◌, cond, ltb, List, [], ◌∷◌, ◌++◌, drop, take, length, None, Result, Ok, Err, refl, sym, ap, subst, ◌∙◌, length-append, length-drop, arith, inl, inr}
 use Rattle.std.specs.Prelude.{IfOk}
 use Rattle.std.proofs.Math.Seq.{take-append_seam}
 use Rattle.std.proofs.lemmas.Bool.{lt-ltb, le-ltb, ltb-true, ltb-false, cases_Bool}
@@ -10,7 +10,7 @@ use Rattle.jm_section.specs.declared.header.Head.{Head}
 use Rattle.jm_section.specs.declared.reading.Section.{Section}
 use Rattle.jm_section.specs.declared.reading.SectionFault.{SectionFault}
 use Rattle.jm_section.specs.declared.reading.SectionFault.TheVariants.{Short}
-use Rattle.jm_section.specs.Grammar.{SpellsList, SpellsHead, short_head, long_head, Read, IsSection}
+use Rattle.jm_section.specs.Grammar.{SpellsHead, short_head, long_head, Read, IsSection}
 use Rattle.jm_section.specs.Reading.{◌>>=◌, GivesBy, items_read, head_of, head_read, section_read, section_view}
 use Rattle.jm_section.proofs.Lists.{list_spelled, list_found}
 
@@ -20,7 +20,7 @@ headed head = Ok head
 abbrev items_are : List Item → Result (List Item) SectionFault
 items_are items = Ok items
 
-abbrev is_read : Read → Result Read SectionFault
+abbrev pub is_read : Read → Result Read SectionFault
 is_read section = Ok section
 
 -- ## The header
@@ -83,7 +83,7 @@ section_spelled octets section s =
     let behind : drop head.size octets ≡ s.list ++ s.rest = ap (drop head.size) s.split ∙ drop_front s.head_text (s.list ++ s.rest) head.size (sym h.size_is) in
     let list : take head.len (s.list ++ s.rest) ≡ s.list = ap (λ (n : ℕ). take n (s.list ++ s.rest)) (sym s.len_is) ∙ take-append_seam s.list s.rest in
     let items : items_read head.len head.size head.bare None s.list ≡ items_are section.items =
-      ap (λ (n : ℕ). items_read n head.size head.bare None s.list) (sym s.len_is) ∙ list_spelled head.bare s.list section.items head.size s.listed in
+    ap (λ (n : ℕ). items_read n head.size head.bare None s.list) (sym s.len_is) ∙ list_spelled head.bare s.list section.items head.size s.listed in
     let enough : head.size + head.len ≤ length octets = omega (arith, h.size_is, s.len_is) in
     let used : head.size + head.len ≡ section.used = omega (arith, h.size_is, s.len_is, s.used_is) in
     rw (read, le-ltb (length octets) (head.size + head.len) enough, behind, list, items) (made section head s.journal_is used)
@@ -127,7 +127,7 @@ items_found octets head section (Ok items) found enough e h =
 
 behind_head : (octets : List ℕ) (section : Read) (read : Result Head SectionFault) → head_read octets ≡ read
     → (read >>= λ head. cond (ltb (length octets) (head.size + head.len)) (Err Short)
-      (items_read head.len head.size head.bare None (take head.len (drop head.size octets)) >>= λ items. Ok (record { items = items; journal = head.journal; used = head.size + head.len }))) ≡ is_read section
+    (items_read head.len head.size head.bare None (take head.len (drop head.size octets)) >>= λ items. Ok (record { items = items; journal = head.journal; used = head.size + head.len }))) ≡ is_read section
     → IsSection octets section
 behind_head octets section (Err f) e h = absurd cc
 behind_head octets section (Ok head) e h =

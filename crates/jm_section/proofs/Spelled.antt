@@ -1,13 +1,10 @@
 -- What is spelled by the grammar is read.
-use Rattle.std.proofs.Common.{◌≡◌, ℕ, zero, suc, ◌-◌, ◌+◌, ◌*◌, ◌/◌, ◌%◌, ◌≤◌, ◌<◌, Bool, true, false, cond, eqb, ltb, List, [], ◌∷◌, ◌++◌, drop, take, get_or, length, Option, Some, None, Result, Ok, Err, refl, sym, ap, subst, ◌∙◌, append_assoc, length-append, add-one, add_comm, arith, inl, inr}
-use Rattle.std.proofs.lemmas.Bool.{lt-ltb, le-ltb, ltb-true, eqb-true, ne_eqb, cases_Bool, or_cases, and_parts}
-use Rattle.std.proofs.lemmas.List.{append-nil}
+use Rattle.std.proofs.Common.{◌≡◌, ℕ, ◌+◌, ◌≤◌, ◌<◌, false, eqb, List, [], ◌∷◌, ◌++◌, drop, take, get_or, length, Option, Some, Result, Ok, refl, ap, ◌∙◌, append_assoc, length-append, add-one, add_comm, arith, inl, inr}
+use Rattle.std.proofs.lemmas.Bool.{lt-ltb, le-ltb, eqb-true, ne_eqb, cases_Bool, and_parts}
 use Rattle.std.specs.List.{list_all}
 use Rattle.std.specs.Prelude.{IsTrue, ◌⊎◌}
 use Rattle.jm_cmds.specs.declared.commands.Command.{Command}
 use Rattle.jm_cmds.specs.declared.commands.Command.TheVariants.{NoteOff, NoteOn, PolyPressure, Control, Program, Pressure, Wheel, QuarterFrame, SongPosition, SongSelect, TuneRequest, Clock, Start, Continue, Stop, ActiveSensing, SystemReset, Sysex}
-use Rattle.jm_cmds.specs.declared.reading.CmdFault.{CmdFault}
-use Rattle.jm_cmds.specs.declared.reading.CmdFault.TheVariants as commands
 use Rattle.jm_cmds.specs.Command.{spelling, status_of, IsCommand}
 use Rattle.jm_cmds.specs.Data.{is_data, IsData, data_len}
 use Rattle.jm_cmds.specs.Reading.{command_read}
@@ -18,7 +15,7 @@ use Rattle.jm_section.specs.declared.item.PartKind.{PartKind}
 use Rattle.jm_section.specs.declared.item.PartKind.TheVariants.{First, Middle, Last, Cancel}
 use Rattle.jm_section.specs.declared.reading.SectionFault.{SectionFault}
 use Rattle.jm_section.specs.Grammar.{is_passed, IsSegment, first_part, middle_part, last_part, cancel_first, cancel_other, SpellsWhat, with_status, without_status, passed, passed_long, segment}
-use Rattle.jm_section.specs.Reading.{whole, one_less, under_running, exclusive_ended, exclusive_read, what_read}
+use Rattle.jm_section.specs.Reading.{whole, under_running, exclusive_ended, exclusive_read, what_read}
 
 abbrev got : What × ℕ → Result (What × ℕ) SectionFault
 got read = Ok read
@@ -168,15 +165,15 @@ passed_read place running octet rest h =
     elim (cases_Bool (eqb octet 0xf4)) [
       | inl t ↦ rw (eqb-true octet 0xf4 t) refl
       | inr f4 ↦ elim (cases_Bool (eqb octet 0xf5)) [
-          | inl t ↦ rw (eqb-true octet 0xf5 t) refl
-          | inr f5 ↦ elim (cases_Bool (eqb octet 0xf9)) [
-              | inl t ↦ rw (eqb-true octet 0xf9 t) refl
-              | inr f9 ↦ elim (cases_Bool (eqb octet 0xfd)) [
-                  | inl t ↦ rw (eqb-true octet 0xfd t) refl
-                  | inr fd ↦ let never = rw (f4, f5, f9, fd) at h in absurd cc
-                ]
-            ]
+        | inl t ↦ rw (eqb-true octet 0xf5 t) refl
+        | inr f5 ↦ elim (cases_Bool (eqb octet 0xf9)) [
+          | inl t ↦ rw (eqb-true octet 0xf9 t) refl
+          | inr f9 ↦ elim (cases_Bool (eqb octet 0xfd)) [
+            | inl t ↦ rw (eqb-true octet 0xfd t) refl
+            | inr fd ↦ let never = rw (f4, f5, f9, fd) at h in absurd cc
+          ]
         ]
+      ]
     ]
 
 -- what is spelled is read, whatever follows

@@ -3,3 +3,4 @@ pub mod Section
 pub mod Pieces
 pub mod Grammar
 pub mod Reading
+pub mod Laws

@@ -1,6 +1,6 @@
 -- A list to which commands are added at its end.
 use Rattle.std.specs.Prelude.{◌≡◌, ℕ, List, [], ◌∷◌, ◌++◌, length, ◌+◌}
-use Rattle.std.proofs.Common.{refl, sym, ap, ◌∙◌, append_assoc, arith, length-append}
+use Rattle.std.proofs.Common.{refl, sym, ap, ◌∙◌, append_assoc, length-append}
 use Rattle.std.proofs.lemmas.List.{append-nil}
 use Rattle.jm_section.specs.declared.next.Place.{Place}
 use Rattle.jm_section.specs.Section.{Timed, piece, pieces, place_after}

@@ -1,8 +1,7 @@
 -- Reading a section from left to right, with the first fault that is met. Places are counted from the
 -- section's first octet.
-use Rattle.std.specs.Prelude.{◌≡◌, ℕ, zero, suc, ◌+◌, ◌-◌, ◌*◌, ◌/◌, ◌%◌, Bool, true, false, ◌||◌, ◌==◌, List, [], ◌∷◌, length, take, drop, slice_index, nat_lt, nat_le, Option, Some, None, Result, Ok, Err, if◌then◌else◌}
+use Rattle.std.specs.Prelude.{◌≡◌, ℕ, zero, suc, ◌+◌, ◌-◌, ◌*◌, ◌%◌, Bool, true, false, ◌||◌, ◌==◌, List, [], ◌∷◌, length, take, drop, slice_index, nat_lt, Option, Some, None, Result, Ok, Err, if◌then◌else◌}
 use Rattle.jm_cmds.specs.declared.commands.Command.{Command}
-use Rattle.jm_cmds.specs.declared.commands.Command.TheVariants.{Sysex}
 use Rattle.jm_cmds.specs.declared.reading.CmdFault.{CmdFault}
 use Rattle.jm_cmds.specs.declared.reading.CmdFault.TheVariants as commands
 use Rattle.jm_cmds.specs.declared.outcome.ReadError.{ReadError}
@@ -14,7 +13,6 @@ use Rattle.jm_wire.specs.Delta.{delta_at}
 use Rattle.jm_section.specs.declared.item.Item.{Item}
 use Rattle.jm_section.specs.declared.item.What.{What}
 use Rattle.jm_section.specs.declared.item.What.TheVariants.{Whole, Part, Passed}
-use Rattle.jm_section.specs.declared.item.PartKind.{PartKind}
 use Rattle.jm_section.specs.declared.item.PartKind.TheVariants.{First, Middle, Last, Cancel}
 use Rattle.jm_section.specs.declared.reading.SectionFault.{SectionFault}
 use Rattle.jm_section.specs.declared.reading.SectionFault.TheVariants.{Short, NoStatus, BadCommand, BadDelta}

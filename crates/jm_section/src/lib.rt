@@ -9,6 +9,7 @@
 mod command;
 mod header;
 mod item;
+pub mod laws;
 mod next;
 mod reading;
 mod writing;
@@ -19,3 +20,6 @@ pub use item::{Item, PartKind, What};
 pub use next::{Place, next_len, write_next};
 pub use reading::{Section, SectionFault, read_section};
 pub use writing::write_section;
+
+#[cfg(test)]
+mod tests;

@@ -1,8 +1,7 @@
-use Rattle.std.proofs.Common.{◌-◌, length, None, Option, Result, Ok, ℕ, ap, ◌∙◌}
+use Rattle.std.proofs.Common.{length, Option, Result, Ok, ℕ}
 use Rattle.std.proofs.lemmas.Result.{err_from_is_err_and}
 use Rattle.jm_section.specs.declared.item.Item.{Item}
 use Rattle.jm_section.specs.declared.reading.SectionFault.{SectionFault}
-use Rattle.jm_section.specs.Reading.{items_read}
 use Rattle.jm_section.proofs.Loop.{goes_on, ends_here, fails_here, all_read}
 use Rattle.jm_section.proofs.reading.read_items.Goals as goal
 
