@@ -1,2 +1,6 @@
 pub mod Running
 pub mod Section
+pub mod Pieces
+pub mod Grammar
+pub mod Reading
+pub mod Laws

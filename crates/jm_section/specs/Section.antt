@@ -1,6 +1,6 @@
 -- The section that a list of commands is written as (RFC 6295, section 3).
 use Rattle.std.specs.Prelude.{◌≡◌, ℕ, ◌+◌, ◌/◌, ◌%◌, ◌^◌, ◌<◌, ◌≤◌, Bool, true, false, List, [], ◌∷◌, ◌++◌, length, drop, nat_lt, Option, None, if◌then◌else◌, All, IsTrue}
-use Rattle.jm_cmds.specs.declared.verbs.Command.{Command}
+use Rattle.jm_cmds.specs.declared.commands.Command.{Command}
 use Rattle.jm_cmds.specs.Command.{spelling, status_of}
 use Rattle.jm_wire.specs.Delta.{delta}
 use Rattle.jm_section.specs.declared.next.Place.{Place}

@@ -9,11 +9,17 @@
 mod command;
 mod header;
 mod item;
+pub mod laws;
 mod next;
+mod reading;
 mod writing;
 
 pub use command::write_command;
 pub use header::{section_header_len, write_section_header};
 pub use item::{Item, PartKind, What};
 pub use next::{Place, next_len, write_next};
+pub use reading::{Section, SectionFault, read_section};
 pub use writing::write_section;
+
+#[cfg(test)]
+mod tests;

@@ -21,7 +21,7 @@ pub enum Place {
 
 /// The running status behind a command with this status octet (RFC 6295, section 3.2): a channel
 /// command sets it, F0 to F7 end it, F8 to FF leave it.
-fn running_after(running: Option<u8>, status: u8) -> Option<u8>
+pub(crate) fn running_after(running: Option<u8>, status: u8) -> Option<u8>
     ensures { result ≡ running_after running status }
 {
     if status < 0xf0 {
