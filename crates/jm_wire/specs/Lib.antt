@@ -1,0 +1,5 @@
+pub mod Octets
+pub mod Delta
+pub mod DeltaReading
+pub mod DeltaWriting
+pub mod Numbers

@@ -1,0 +1,15 @@
+//! Octets on the wire: a buffer that is filled from the front and never grows, the delta field of
+//! RFC 6295, section 3.1, and numbers whose low bits alone are sent.
+#![tactic(auto)]
+
+mod delta;
+pub mod laws;
+mod number;
+mod octets;
+
+pub use delta::{DeltaFault, delta_len, read_delta, write_delta};
+pub use number::extend16;
+pub use octets::Octets;
+
+#[cfg(test)]
+mod tests;
