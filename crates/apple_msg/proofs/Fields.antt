@@ -1,5 +1,5 @@
 -- A field that is read is the field that was written, and what was written is read again.
-use Rattle.std.proofs.Common.{◌≡◌, ℕ, zero, suc, ◌+◌, ◌^◌, ◌<◌, ◌≤◌, Bool, true, false, cond, ltb, eqb, List, [], ◌∷◌, ◌++◌, length, get_or, take, drop, Result, Ok, Err, refl, sym, ap, subst, ◌∙◌, append_assoc, arith, inl, inr}
+use Rattle.std.proofs.Common.{◌≡◌, ℕ, suc, ◌+◌, ◌^◌, ◌<◌, ◌≤◌, false, ltb, List, [], ◌∷◌, ◌++◌, length, take, drop, Result, Ok, Err, refl, sym, arith, inl, inr}
 use Rattle.std.specs.Prelude.{MatchResult}
 use Rattle.std.specs.Int.{Width, w16, w32, w64, byte_len, from_be_bytes, to_be_bytes}
 use Rattle.std.proofs.lemmas.Bool.{cases_lt, lt-ltb, le-ltb}
@@ -79,14 +79,14 @@ number_cases w limit wide octets fits =
     elim (cases_lt (length octets) (byte_len w)) [
       | inl lt ↦ rw (lt-ltb _ _ lt) (record { fault = refl; few = lt })
       | inr le ↦
-        let whole : to_be_bytes w (from_be_bytes w (take (byte_len w) octets)) ≡ take (byte_len w) octets = wide.back (take (byte_len w) octets) (omega (arith, length-take (byte_len w) octets)) (AreOctets-take (byte_len w) octets fits) in
-        rw (le-ltb _ _ le) (record {
-          fits = wide.below (take (byte_len w) octets) (AreOctets-take (byte_len w) octets fits);
-          front = refl;
-          parts = rw whole (sym (take-append-drop (byte_len w) octets));
-          size = omega (arith, length-drop (byte_len w) octets);
-          rest_octets = AreOctets-drop (byte_len w) octets fits;
-        })
+          let whole : to_be_bytes w (from_be_bytes w (take (byte_len w) octets)) ≡ take (byte_len w) octets = wide.back (take (byte_len w) octets) (omega (arith, length-take (byte_len w) octets)) (AreOctets-take (byte_len w) octets fits) in
+          rw (le-ltb _ _ le) (record {
+            fits = wide.below (take (byte_len w) octets) (AreOctets-take (byte_len w) octets fits);
+            front = refl;
+            parts = rw whole (sym (take-append-drop (byte_len w) octets));
+            size = omega (arith, length-drop (byte_len w) octets);
+            rest_octets = AreOctets-drop (byte_len w) octets fits;
+          })
     ]
 
 pub number_again : (w : Width) (limit : ℕ) (wide : IsWide w limit) (n : ℕ) (rest : List ℕ) → n < limit → number_at w (to_be_bytes w n ++ rest) ≡ Ok (n, rest)
@@ -115,11 +115,11 @@ behind_cases size octets fits =
     elim (cases_lt (length octets) size) [
       | inl lt ↦ rw (lt-ltb _ _ lt) (record { fault = refl; few = lt })
       | inr le ↦ rw (le-ltb _ _ le) (record {
-          ignored = take size octets;
-          counted = omega (arith, length-take size octets);
-          parts = sym (take-append-drop size octets);
-          rest_octets = AreOctets-drop size octets fits;
-        })
+        ignored = take size octets;
+        counted = omega (arith, length-take size octets);
+        parts = sym (take-append-drop size octets);
+        rest_octets = AreOctets-drop size octets fits;
+      })
     ]
 
 pub behind_again : (ignored rest : List ℕ) (size : ℕ) → length ignored ≡ size → behind size (ignored ++ rest) ≡ Ok rest

@@ -1,17 +1,16 @@
 -- The messages of a fixed size: byes, clocks and feedback.
-use Rattle.std.proofs.Common.{◌≡◌, ◌≢◌, ℕ, ◌+◌, ◌^◌, ◌<◌, ◌≤◌, List, [], ◌∷◌, ◌++◌, length, take, drop, Result, Ok, Err, refl, sym, ap, ◌∙◌, arith, inl, inr, ◌⊎◌}
+use Rattle.std.proofs.Common.{◌≡◌, ℕ, ◌+◌, ◌^◌, ◌<◌, ◌≤◌, List, [], ◌∷◌, ◌++◌, length, take, drop, Ok, Err, refl, ap, ◌∙◌, arith, inl, inr}
 use Rattle.std.specs.Prelude.{MatchResult}
 use Rattle.std.specs.Int.{w16, w32, w64, from_be_bytes, to_be_bytes}
 use Rattle.std.proofs.lemmas.Bool.{cases_lt}
 use Rattle.std.proofs.lemmas.List.{length-drop, length-append}
-use Rattle.apple_msg.specs.declared.message.Message.{Message}
 use Rattle.apple_msg.specs.declared.message.Message.TheVariants.{Bye, Clock, Feedback}
 use Rattle.apple_msg.specs.declared.message.MsgFault.{MsgFault}
-use Rattle.apple_msg.specs.declared.message.MsgFault.TheVariants.{Short, Version}
+use Rattle.apple_msg.specs.declared.message.MsgFault.TheVariants.{Short}
 use Rattle.apple_msg.specs.Reading.{◌>>=◌, number_at, octet_at, behind, header_at, bye_at, clock_at, feedback_at}
 use Rattle.apple_msg.specs.Spelling.{marked, header}
 use Rattle.apple_msg.specs.Grammar.{AreOctets, Spells}
-use Rattle.apple_msg.proofs.Fields.{match_bind, wide16, wide32, wide64, IsShort, TakesNumber, number_cases, number_again, number_long, number_short, Skips, behind_cases, behind_again, behind_short, behind_long, octet_cases, octet_short, AreOctets-rest}
+use Rattle.apple_msg.proofs.Fields.{match_bind, wide16, wide32, wide64, IsShort, TakesNumber, number_cases, number_again, number_long, number_short, Skips, behind_cases, behind_again, behind_short, behind_long, octet_cases}
 use Rattle.apple_msg.proofs.Messages.{TakesHeader, HeaderFails, header_cases, header_again}
 
 -- ---- byes
@@ -42,20 +41,20 @@ feedback_cases octets rest of fits =
     (λ ssrc. number_at w16 ssrc.1 >>= λ seq. behind 2 seq.1 >>= λ spare. Ok (Feedback ssrc.0 seq.0))
     (number_cases w32 (2 ^ 32) wide32 rest fits)
     (λ ssrc s. match_bind (TakesNumber w16 (2 ^ 16) ssrc.1) (IsShort ssrc.1 2) (Spells octets) (IsShort rest 8) (number_at w16 ssrc.1)
-      (λ seq. behind 2 seq.1 >>= λ spare. Ok (Feedback ssrc.0 seq.0))
-      (number_cases w16 (2 ^ 16) wide16 ssrc.1 s.rest_octets)
-      (λ seq q. match_bind (Skips 2 seq.1) (IsShort seq.1 2) (Spells octets) (IsShort rest 8) (behind 2 seq.1)
-        (λ spare. Ok (Feedback ssrc.0 seq.0))
-        (behind_cases 2 seq.1 q.rest_octets)
-        (λ spare k. record {
-          ssrc_fits = s.fits;
-          seq_fits = q.fits;
-          spare = seq.1;
-          two = omega (arith, ap length k.parts, length-append k.ignored spare, k.counted);
-          parts = of ∙ ap (marked 82 83) (s.parts ∙ ap (λ (t : List ℕ). to_be_bytes w32 ssrc.0 ++ t) q.parts);
-        })
-        (λ f short. record { fault = short.fault; few = omega (arith, short.few, s.size, q.size) }))
-      (λ f short. record { fault = short.fault; few = omega (arith, short.few, s.size) }))
+    (λ seq. behind 2 seq.1 >>= λ spare. Ok (Feedback ssrc.0 seq.0))
+    (number_cases w16 (2 ^ 16) wide16 ssrc.1 s.rest_octets)
+    (λ seq q. match_bind (Skips 2 seq.1) (IsShort seq.1 2) (Spells octets) (IsShort rest 8) (behind 2 seq.1)
+    (λ spare. Ok (Feedback ssrc.0 seq.0))
+    (behind_cases 2 seq.1 q.rest_octets)
+    (λ spare k. record {
+      ssrc_fits = s.fits;
+      seq_fits = q.fits;
+      spare = seq.1;
+      two = omega (arith, ap length k.parts, length-append k.ignored spare, k.counted);
+      parts = of ∙ ap (marked 82 83) (s.parts ∙ ap (λ (t : List ℕ). to_be_bytes w32 ssrc.0 ++ t) q.parts);
+    })
+    (λ f short. record { fault = short.fault; few = omega (arith, short.few, s.size, q.size) }))
+    (λ f short. record { fault = short.fault; few = omega (arith, short.few, s.size) }))
     (λ f short. record { fault = short.fault; few = omega (arith, short.few) })
 
 pub feedback_again : (ssrc seq : ℕ) (spare : List ℕ) → ssrc < 2 ^ 32 → seq < 2 ^ 16 → 2 ≤ length spare → feedback_at (to_be_bytes w32 ssrc ++ (to_be_bytes w16 seq ++ spare)) ≡ Ok (Feedback ssrc seq)
@@ -69,13 +68,13 @@ feedback_short octets lt =
     elim (cases_lt (length octets) 4) [
       | inl less ↦ rw (number_short w32 octets less) refl
       | inr le ↦
-        let second = length-drop 4 octets in
-        rw (number_long w32 octets le) (elim (cases_lt (length (drop 4 octets)) 2) [
-          | inl less ↦ rw (number_short w16 (drop 4 octets) less) refl
-          | inr also ↦
-            let third = length-drop 2 (drop 4 octets) in
-            rw (number_long w16 (drop 4 octets) also, behind_short 2 (drop 2 (drop 4 octets)) (omega arith)) refl
-        ])
+          let second = length-drop 4 octets in
+          rw (number_long w32 octets le) (elim (cases_lt (length (drop 4 octets)) 2) [
+            | inl less ↦ rw (number_short w16 (drop 4 octets) less) refl
+            | inr also ↦
+                let third = length-drop 2 (drop 4 octets) in
+                rw (number_long w16 (drop 4 octets) also, behind_short 2 (drop 2 (drop 4 octets)) (omega arith)) refl
+          ])
     ]
 
 -- ---- clocks
@@ -92,43 +91,43 @@ clock_cases octets rest of fits =
     (λ ssrc. octet_at ssrc.1 >>= λ count. behind 3 count.1 >>= λ after. number_at w64 after >>= λ first. number_at w64 first.1 >>= λ second. number_at w64 second.1 >>= λ third. Ok (Clock ssrc.0 count.0 (first.0 ∷ second.0 ∷ third.0 ∷ [])))
     (number_cases w32 (2 ^ 32) wide32 rest fits)
     (λ ssrc s. match_bind (λ (x : ℕ × List ℕ). (ssrc.1 ≡ x.0 ∷ x.1) × AreOctets x.1) (IsShort ssrc.1 1) (Spells octets) (IsShort rest 32) (octet_at ssrc.1)
-      (λ count. behind 3 count.1 >>= λ after. number_at w64 after >>= λ first. number_at w64 first.1 >>= λ second. number_at w64 second.1 >>= λ third. Ok (Clock ssrc.0 count.0 (first.0 ∷ second.0 ∷ third.0 ∷ [])))
-      (octet_cases ssrc.1 s.rest_octets)
-      (λ count n.
-        let sized : length ssrc.1 ≡ 1 + length count.1 = omega (arith, ap length n.0) in
-        match_bind (Skips 3 count.1) (IsShort count.1 3) (Spells octets) (IsShort rest 32) (behind 3 count.1)
-        (λ after. number_at w64 after >>= λ first. number_at w64 first.1 >>= λ second. number_at w64 second.1 >>= λ third. Ok (Clock ssrc.0 count.0 (first.0 ∷ second.0 ∷ third.0 ∷ [])))
-        (behind_cases 3 count.1 n.1)
-        (λ after k.
-          let skipped : length count.1 ≡ 3 + length after = omega (arith, ap length k.parts, length-append k.ignored after, k.counted) in
-          match_bind (TakesNumber w64 (2 ^ 64) after) (IsShort after 8) (Spells octets) (IsShort rest 32) (number_at w64 after)
-          (λ first. number_at w64 first.1 >>= λ second. number_at w64 second.1 >>= λ third. Ok (Clock ssrc.0 count.0 (first.0 ∷ second.0 ∷ third.0 ∷ [])))
-          (number_cases w64 (2 ^ 64) wide64 after k.rest_octets)
-          (λ first a. match_bind (TakesNumber w64 (2 ^ 64) first.1) (IsShort first.1 8) (Spells octets) (IsShort rest 32) (number_at w64 first.1)
-            (λ second. number_at w64 second.1 >>= λ third. Ok (Clock ssrc.0 count.0 (first.0 ∷ second.0 ∷ third.0 ∷ [])))
-            (number_cases w64 (2 ^ 64) wide64 first.1 a.rest_octets)
-            (λ second b. match_bind (TakesNumber w64 (2 ^ 64) second.1) (IsShort second.1 8) (Spells octets) (IsShort rest 32) (number_at w64 second.1)
-              (λ third. Ok (Clock ssrc.0 count.0 (first.0 ∷ second.0 ∷ third.0 ∷ [])))
-              (number_cases w64 (2 ^ 64) wide64 second.1 b.rest_octets)
-              (λ third c. record {
-                ssrc_fits = s.fits;
-                first = first.0;
-                second = second.0;
-                third = third.0;
-                first_fits = a.fits;
-                second_fits = b.fits;
-                third_fits = c.fits;
-                times_are = refl;
-                ignored = k.ignored;
-                three = k.counted;
-                spare = third.1;
-                parts = of ∙ ap (marked 67 75) (s.parts ∙ ap (λ (t : List ℕ). to_be_bytes w32 ssrc.0 ++ t) (n.0 ∙ ap (λ (t : List ℕ). count.0 ∷ t) (k.parts ∙ ap (λ (t : List ℕ). k.ignored ++ t) (a.parts ∙ ap (λ (t : List ℕ). to_be_bytes w64 first.0 ++ t) (b.parts ∙ ap (λ (t : List ℕ). to_be_bytes w64 second.0 ++ t) c.parts)))));
-              })
-              (λ f short. record { fault = short.fault; few = omega (arith, short.few, s.size, sized, skipped, a.size, b.size) }))
-            (λ f short. record { fault = short.fault; few = omega (arith, short.few, s.size, sized, skipped, a.size) }))
-          (λ f short. record { fault = short.fault; few = omega (arith, short.few, s.size, sized, skipped) }))
-        (λ f short. record { fault = short.fault; few = omega (arith, short.few, s.size, sized) }))
-      (λ f short. record { fault = short.fault; few = omega (arith, short.few, s.size) }))
+    (λ count. behind 3 count.1 >>= λ after. number_at w64 after >>= λ first. number_at w64 first.1 >>= λ second. number_at w64 second.1 >>= λ third. Ok (Clock ssrc.0 count.0 (first.0 ∷ second.0 ∷ third.0 ∷ [])))
+    (octet_cases ssrc.1 s.rest_octets)
+    (λ count n.
+    let sized : length ssrc.1 ≡ 1 + length count.1 = omega (arith, ap length n.0) in
+    match_bind (Skips 3 count.1) (IsShort count.1 3) (Spells octets) (IsShort rest 32) (behind 3 count.1)
+    (λ after. number_at w64 after >>= λ first. number_at w64 first.1 >>= λ second. number_at w64 second.1 >>= λ third. Ok (Clock ssrc.0 count.0 (first.0 ∷ second.0 ∷ third.0 ∷ [])))
+    (behind_cases 3 count.1 n.1)
+    (λ after k.
+    let skipped : length count.1 ≡ 3 + length after = omega (arith, ap length k.parts, length-append k.ignored after, k.counted) in
+    match_bind (TakesNumber w64 (2 ^ 64) after) (IsShort after 8) (Spells octets) (IsShort rest 32) (number_at w64 after)
+    (λ first. number_at w64 first.1 >>= λ second. number_at w64 second.1 >>= λ third. Ok (Clock ssrc.0 count.0 (first.0 ∷ second.0 ∷ third.0 ∷ [])))
+    (number_cases w64 (2 ^ 64) wide64 after k.rest_octets)
+    (λ first a. match_bind (TakesNumber w64 (2 ^ 64) first.1) (IsShort first.1 8) (Spells octets) (IsShort rest 32) (number_at w64 first.1)
+    (λ second. number_at w64 second.1 >>= λ third. Ok (Clock ssrc.0 count.0 (first.0 ∷ second.0 ∷ third.0 ∷ [])))
+    (number_cases w64 (2 ^ 64) wide64 first.1 a.rest_octets)
+    (λ second b. match_bind (TakesNumber w64 (2 ^ 64) second.1) (IsShort second.1 8) (Spells octets) (IsShort rest 32) (number_at w64 second.1)
+    (λ third. Ok (Clock ssrc.0 count.0 (first.0 ∷ second.0 ∷ third.0 ∷ [])))
+    (number_cases w64 (2 ^ 64) wide64 second.1 b.rest_octets)
+    (λ third c. record {
+      ssrc_fits = s.fits;
+      first = first.0;
+      second = second.0;
+      third = third.0;
+      first_fits = a.fits;
+      second_fits = b.fits;
+      third_fits = c.fits;
+      times_are = refl;
+      ignored = k.ignored;
+      three = k.counted;
+      spare = third.1;
+      parts = of ∙ ap (marked 67 75) (s.parts ∙ ap (λ (t : List ℕ). to_be_bytes w32 ssrc.0 ++ t) (n.0 ∙ ap (λ (t : List ℕ). count.0 ∷ t) (k.parts ∙ ap (λ (t : List ℕ). k.ignored ++ t) (a.parts ∙ ap (λ (t : List ℕ). to_be_bytes w64 first.0 ++ t) (b.parts ∙ ap (λ (t : List ℕ). to_be_bytes w64 second.0 ++ t) c.parts)))));
+    })
+    (λ f short. record { fault = short.fault; few = omega (arith, short.few, s.size, sized, skipped, a.size, b.size) }))
+    (λ f short. record { fault = short.fault; few = omega (arith, short.few, s.size, sized, skipped, a.size) }))
+    (λ f short. record { fault = short.fault; few = omega (arith, short.few, s.size, sized, skipped) }))
+    (λ f short. record { fault = short.fault; few = omega (arith, short.few, s.size, sized) }))
+    (λ f short. record { fault = short.fault; few = omega (arith, short.few, s.size) }))
     (λ f short. record { fault = short.fault; few = omega (arith, short.few) })
 
 pub clock_again : (ssrc count : ℕ) (ignored : List ℕ) (first second third : ℕ) (spare : List ℕ) → ssrc < 2 ^ 32 → length ignored ≡ 3 → first < 2 ^ 64 → second < 2 ^ 64 → third < 2 ^ 64
@@ -144,13 +143,13 @@ times_short ssrc count octets lt =
     elim (cases_lt (length octets) 8) [
       | inl less ↦ rw (number_short w64 octets less) refl
       | inr le ↦
-        let second = length-drop 8 octets in
-        rw (number_long w64 octets le) (elim (cases_lt (length (drop 8 octets)) 8) [
-          | inl less ↦ rw (number_short w64 (drop 8 octets) less) refl
-          | inr also ↦
-            let third = length-drop 8 (drop 8 octets) in
-            rw (number_long w64 (drop 8 octets) also, number_short w64 (drop 8 (drop 8 octets)) (omega arith)) refl
-        ])
+          let second = length-drop 8 octets in
+          rw (number_long w64 octets le) (elim (cases_lt (length (drop 8 octets)) 8) [
+            | inl less ↦ rw (number_short w64 (drop 8 octets) less) refl
+            | inr also ↦
+                let third = length-drop 8 (drop 8 octets) in
+                rw (number_long w64 (drop 8 octets) also, number_short w64 (drop 8 (drop 8 octets)) (omega arith)) refl
+          ])
     ]
 
 count_short : (ssrc : ℕ) (octets : List ℕ) → length octets < 28

@@ -1,22 +1,19 @@
 -- What is read is what is spelled, and the others have the first fault.
-use Rattle.std.proofs.Common.{◌≡◌, ◌≢◌, ℕ, zero, suc, ◌+◌, ◌^◌, ◌<◌, ◌≤◌, Bool, true, false, cond, ltb, eqb, List, [], ◌∷◌, ◌++◌, length, get_or, take, drop, Option, Some, None, Result, Ok, Err, refl, sym, ap, subst, ◌∙◌, append_assoc, arith, inl, inr, ◌⊎◌}
-use Rattle.std.specs.Prelude.{MatchResult, All, slice_index}
-use Rattle.std.specs.List.{AllByRecursion, position, position_or_len, before_first, after_first}
-use Rattle.std.specs.Int.{Width, w16, w32, w64, byte_len, from_be_bytes, to_be_bytes}
+use Rattle.std.proofs.Common.{◌≡◌, ◌≢◌, ℕ, ◌^◌, ◌<◌, ◌≤◌, Bool, true, false, cond, ltb, eqb, List, [], ◌∷◌, ◌++◌, length, get_or, take, drop, Ok, Err, refl, ap, ◌∙◌, arith, inl, inr, ◌⊎◌}
+use Rattle.std.specs.Prelude.{MatchResult, All}
+use Rattle.std.specs.List.{AllByRecursion, position_or_len, before_first, after_first}
+use Rattle.std.specs.Int.{w32, from_be_bytes, to_be_bytes}
 use Rattle.std.proofs.lemmas.Bool.{cases_lt, lt-ltb, le-ltb, eqb-true, eqb-false, ne_eqb}
-use Rattle.std.proofs.lemmas.List.{take_at, drop_at, length-append, length-take, length-drop, append-nil, nil_from_length, get_or-take}
+use Rattle.std.proofs.lemmas.List.{take_at, length-append, length-take, length-drop, nil_from_length, get_or-take}
 use Rattle.std.proofs.lemmas.List.Sums.{position_or_len_is, fails_before_first, passes_at_first, split_at_first}
-use Rattle.std.proofs.lemmas.List.Elements.{All-from_recursion, recursion_from_All, All-from_get_or}
-use Rattle.apple_msg.specs.declared.message.Message.{Message}
-use Rattle.apple_msg.specs.declared.message.Message.TheVariants.{Invite, Accept, Reject, Bye, Clock, Feedback, RateLimit}
+use Rattle.std.proofs.lemmas.List.Elements.{recursion_from_All, All-from_get_or}
 use Rattle.apple_msg.specs.declared.message.Invitation.{Invitation}
 use Rattle.apple_msg.specs.declared.message.MsgFault.{MsgFault}
-use Rattle.apple_msg.specs.declared.message.MsgFault.TheVariants.{NotApple, UnknownVerb, Short, Version, NameNotEnded}
-use Rattle.apple_msg.specs.Name.{IsName}
-use Rattle.apple_msg.specs.Reading.{◌>>=◌, number_at, octet_at, behind, is_end, ended, header_at, name_at, invitation_at, bye_at, clock_at, feedback_at}
-use Rattle.apple_msg.specs.Spelling.{header, moments}
-use Rattle.apple_msg.specs.Grammar.{AreOctets, IsEnded, IsAbsent, NamesAs}
-use Rattle.apple_msg.proofs.Fields.{match_bind, IsWide, wide16, wide32, wide64, IsShort, TakesNumber, number_cases, number_again, number_long, number_short, Skips, behind_cases, behind_again, behind_short, AreOctets-rest}
+use Rattle.apple_msg.specs.declared.message.MsgFault.TheVariants.{Short, Version, NameNotEnded}
+use Rattle.apple_msg.specs.Reading.{◌>>=◌, number_at, is_end, header_at, name_at, invitation_at}
+use Rattle.apple_msg.specs.Spelling.{header}
+use Rattle.apple_msg.specs.Grammar.{AreOctets, NamesAs}
+use Rattle.apple_msg.proofs.Fields.{match_bind, wide32, IsShort, TakesNumber, number_cases, number_again, number_long, number_short}
 
 -- ---- version, token and SSRC
 
@@ -58,14 +55,14 @@ header_cases octets fits =
     (λ version. number_at w32 version.1 >>= λ token. number_at w32 token.1 >>= λ ssrc. cond (eqb version.0 2) (Ok (token.0, ssrc.0, ssrc.1)) (Err Version))
     (number_cases w32 (2 ^ 32) wide32 octets fits)
     (λ version v. match_bind (TakesNumber w32 (2 ^ 32) version.1) (IsShort version.1 4) (TakesHeader octets) (HeaderFails octets) (number_at w32 version.1)
-      (λ token. number_at w32 token.1 >>= λ ssrc. cond (eqb version.0 2) (Ok (token.0, ssrc.0, ssrc.1)) (Err Version))
-      (number_cases w32 (2 ^ 32) wide32 version.1 v.rest_octets)
-      (λ token t. match_bind (TakesNumber w32 (2 ^ 32) token.1) (IsShort token.1 4) (TakesHeader octets) (HeaderFails octets) (number_at w32 token.1)
-        (λ ssrc. cond (eqb version.0 2) (Ok (token.0, ssrc.0, ssrc.1)) (Err Version))
-        (number_cases w32 (2 ^ 32) wide32 token.1 t.rest_octets)
-        (λ ssrc s. version_tested octets version.0 token.0 ssrc.0 version.1 token.1 ssrc.1 v t s (eqb version.0 2) refl)
-        (λ f short. inl (record { fault = short.fault; few = omega (arith, short.few, v.size, t.size) })))
-      (λ f short. inl (record { fault = short.fault; few = omega (arith, short.few, v.size) })))
+    (λ token. number_at w32 token.1 >>= λ ssrc. cond (eqb version.0 2) (Ok (token.0, ssrc.0, ssrc.1)) (Err Version))
+    (number_cases w32 (2 ^ 32) wide32 version.1 v.rest_octets)
+    (λ token t. match_bind (TakesNumber w32 (2 ^ 32) token.1) (IsShort token.1 4) (TakesHeader octets) (HeaderFails octets) (number_at w32 token.1)
+    (λ ssrc. cond (eqb version.0 2) (Ok (token.0, ssrc.0, ssrc.1)) (Err Version))
+    (number_cases w32 (2 ^ 32) wide32 token.1 t.rest_octets)
+    (λ ssrc s. version_tested octets version.0 token.0 ssrc.0 version.1 token.1 ssrc.1 v t s (eqb version.0 2) refl)
+    (λ f short. inl (record { fault = short.fault; few = omega (arith, short.few, v.size, t.size) })))
+    (λ f short. inl (record { fault = short.fault; few = omega (arith, short.few, v.size) })))
     (λ f short. inl (record { fault = short.fault; few = omega (arith, short.few) }))
 
 pub header_again : (token ssrc : ℕ) (rest : List ℕ) → token < 2 ^ 32 → ssrc < 2 ^ 32 → header_at (header token ssrc rest) ≡ Ok (token, ssrc, rest)
@@ -115,31 +112,31 @@ before_end : (octets : List ℕ) → position_or_len is_end octets < length octe
 before_end octets inside =
     All-from_get_or (λ octet. octet ≢ 0) (take (position_or_len is_end octets) octets) 0
     (λ i lt. let below : i < position_or_len is_end octets = omega (arith, length-take (position_or_len is_end octets) octets) in
-      rw (get_or-take (position_or_len is_end octets) octets i 0 below) (passes_no_end octets i 0 below))
+    rw (get_or-take (position_or_len is_end octets) octets i 0 below) (passes_no_end octets i 0 below))
 
 pub name_cases : (octets : List ℕ) → MatchResult (name_at octets) (NamesAs octets) (HasNoEnd octets)
 unfolding name_at
 name_cases octets =
     elim (cases_lt 0 (length octets)) [
       | inr le ↦
-        let none : length octets ≡ 0 = omega arith in
-        rw none (inl (record { nothing = nil_from_length octets none; empty = refl }))
+          let none : length octets ≡ 0 = omega arith in
+          rw none (inl (record { nothing = nil_from_length octets none; empty = refl }))
       | inl some ↦
-        let filled : eqb (length octets) 0 ≡ false = grind (arith, some) in
-        elim (cases_lt (position_or_len is_end octets) (length octets)) [
-          | inl inside ↦ rw (filled, lt-ltb (position_or_len is_end octets) (length octets) inside) (inr (record {
+          let filled : eqb (length octets) 0 ≡ false = grind (arith, some) in
+          elim (cases_lt (position_or_len is_end octets) (length octets)) [
+            | inl inside ↦ rw (filled, lt-ltb (position_or_len is_end octets) (length octets) inside) (inr (record {
               whole = take (position_or_len is_end octets) octets;
               spare = after_first is_end octets;
               none_ends = before_end octets inside;
               parts = split_at_first is_end octets 0 inside ∙ ap (λ (x : ℕ). before_first is_end octets ++ (x ∷ after_first is_end octets)) (eqb-true (get_or octets (position_or_len is_end octets) 0) 0 (passes_at_first is_end octets 0 inside));
               kept = refl;
             }))
-          | inr outside ↦ rw (filled, le-ltb (position_or_len is_end octets) (length octets) outside) (record {
+            | inr outside ↦ rw (filled, le-ltb (position_or_len is_end octets) (length octets) outside) (record {
               fault = refl;
               some = some;
               none_ends = λ k d lt. passes_no_end octets k d (omega arith);
             })
-        ]
+          ]
     ]
 
 -- ---- what an invitation and its answers carry
@@ -175,10 +172,10 @@ invitation_cases octets fits =
     (λ h. name_at h.2 >>= λ name. Ok (invitation_of h.0 h.1 name))
     (header_cases octets fits)
     (λ h t. match_bind (NamesAs h.2) (HasNoEnd h.2) (TakesInvitation octets) (InvitationFails octets) (name_at h.2)
-      (λ name. Ok (invitation_of h.0 h.1 name))
-      (name_cases h.2)
-      (λ name named. record { token_fits = t.token_fits; ssrc_fits = t.ssrc_fits; rest = h.2; parts = t.parts; named = named })
-      (λ f e. inr (record { fault = e.fault; token = h.0; ssrc = h.1; name = h.2; token_fits = t.token_fits; ssrc_fits = t.ssrc_fits; parts = t.parts; some = e.some; none_ends = e.none_ends })))
+    (λ name. Ok (invitation_of h.0 h.1 name))
+    (name_cases h.2)
+    (λ name named. record { token_fits = t.token_fits; ssrc_fits = t.ssrc_fits; rest = h.2; parts = t.parts; named = named })
+    (λ f e. inr (record { fault = e.fault; token = h.0; ssrc = h.1; name = h.2; token_fits = t.token_fits; ssrc_fits = t.ssrc_fits; parts = t.parts; some = e.some; none_ends = e.none_ends })))
     (λ f e. inl e)
 
 pub invitation_again : (token ssrc : ℕ) (rest name : List ℕ) → token < 2 ^ 32 → ssrc < 2 ^ 32 → NamesAs rest name → invitation_at (header token ssrc rest) ≡ Ok (invitation_of token ssrc name)
@@ -193,13 +190,13 @@ header_short octets lt =
     elim (cases_lt (length octets) 4) [
       | inl less ↦ rw (number_short w32 octets less) refl
       | inr le ↦
-        let second = length-drop 4 octets in
-        rw (number_long w32 octets le) (elim (cases_lt (length (drop 4 octets)) 4) [
-          | inl less ↦ rw (number_short w32 (drop 4 octets) less) refl
-          | inr also ↦
-            let third = length-drop 4 (drop 4 octets) in
-            rw (number_long w32 (drop 4 octets) also, number_short w32 (drop 4 (drop 4 octets)) (omega arith)) refl
-        ])
+          let second = length-drop 4 octets in
+          rw (number_long w32 octets le) (elim (cases_lt (length (drop 4 octets)) 4) [
+            | inl less ↦ rw (number_short w32 (drop 4 octets) less) refl
+            | inr also ↦
+                let third = length-drop 4 (drop 4 octets) in
+                rw (number_long w32 (drop 4 octets) also, number_short w32 (drop 4 (drop 4 octets)) (omega arith)) refl
+          ])
     ]
 
 pub header_other : (octets : List ℕ) → 12 ≤ length octets → from_be_bytes w32 (take 4 octets) ≢ 2 → header_at octets ≡ Err Version

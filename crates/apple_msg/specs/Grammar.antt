@@ -1,13 +1,14 @@
 -- Which octets spell which message, and which fault is the first in the others.
-use Rattle.std.specs.Prelude.{◌≡◌, ◌≢◌, ℕ, ◌<◌, ◌≤◌, ◌^◌, Bool, true, false, ◌⊎◌, List, [], ◌∷◌, ◌++◌, length, take, slice_index, All, Some, None, Ok, Err, IsTrue, ◌↔◌}
-use Rattle.std.specs.Int.{w16, w32, w64, to_be_bytes, from_be_bytes}
+use Rattle.std.specs.Prelude.{◌≡◌, ◌≢◌, ℕ, ◌<◌, ◌≤◌, ◌^◌, Bool, true, false, ◌⊎◌, List, [], ◌∷◌, ◌++◌, length, take, slice_index, All, Some, None, Ok, Err, ◌↔◌}
+use Rattle.std.specs.Int.{w32, from_be_bytes}
+use Rattle.jm_wire.specs.Numbers.{be16, be32, be64}
 use Rattle.apple_msg.specs.declared.message.Message.{Message}
 use Rattle.apple_msg.specs.declared.message.Message.TheVariants.{Invite, Accept, Reject, Bye, Clock, Feedback, RateLimit}
 use Rattle.apple_msg.specs.declared.message.MsgFault.{MsgFault}
 use Rattle.apple_msg.specs.declared.message.MsgFault.TheVariants.{NotApple, UnknownVerb, Short, Version, NameNotEnded}
 use Rattle.apple_msg.specs.declared.message.Verb.{Verb}
 use Rattle.apple_msg.specs.declared.message.Verb.TheVariants as verbs
-use Rattle.apple_msg.specs.Spelling.{marked, header, moments, text, IsMessage}
+use Rattle.apple_msg.specs.Spelling.{marked, header, text, IsMessage}
 use Rattle.apple_msg.specs.Reading.{read, verb_of}
 
 -- each number of a list fits an octet
@@ -58,7 +59,7 @@ pub record SpellsClock (octets : List ℕ) (ssrc count : ℕ) (times : List ℕ)
   pub ignored : List ℕ
   pub three : length ignored ≡ 3
   pub spare : List ℕ
-  pub parts : octets ≡ marked 67 75 (to_be_bytes w32 ssrc ++ (count ∷ (ignored ++ (to_be_bytes w64 first ++ (to_be_bytes w64 second ++ (to_be_bytes w64 third ++ spare))))))
+  pub parts : octets ≡ marked 67 75 (be32 ssrc ++ (count ∷ (ignored ++ (be64 first ++ (be64 second ++ (be64 third ++ spare))))))
 
 pub record SpellsFeedback (octets : List ℕ) (ssrc seq : ℕ) : Type 0 where
   pub ssrc_fits : ssrc < 2 ^ 32
@@ -66,7 +67,7 @@ pub record SpellsFeedback (octets : List ℕ) (ssrc seq : ℕ) : Type 0 where
   -- two octets that are not looked at, and more
   pub spare : List ℕ
   pub two : 2 ≤ length spare
-  pub parts : octets ≡ marked 82 83 (to_be_bytes w32 ssrc ++ (to_be_bytes w16 seq ++ spare))
+  pub parts : octets ≡ marked 82 83 (be32 ssrc ++ (be16 seq ++ spare))
 
 pub record SpellsRateLimit (octets : List ℕ) : Type 0 where
   pub spare : List ℕ

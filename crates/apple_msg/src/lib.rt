@@ -6,10 +6,16 @@
 //! stands in the crate of the invitation machine.
 #![tactic(auto)]
 
+pub mod laws;
 mod message;
 mod name;
 mod reading;
+mod writing;
 
 pub use message::{Message, MsgFault};
 pub use name::Name;
 pub use reading::read_message;
+pub use writing::write_message;
+
+#[cfg(test)]
+mod tests;

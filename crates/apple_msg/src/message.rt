@@ -7,18 +7,40 @@ use thiserror::Error;
 #[derive(Debug, Drop)]
 pub enum Message {
     /// `IN`: the sender asks to take part. `token` is its number for this invitation, `ssrc` is its own.
-    Invite { token: u32, ssrc: u32, name: Name },
+    Invite {
+        token: u32,
+        ssrc: u32,
+        name: Name,
+    },
     /// `OK`: the answer to an invitation that is taken; the token is the invitation's, the rest the sender's.
-    Accept { token: u32, ssrc: u32, name: Name },
+    Accept {
+        token: u32,
+        ssrc: u32,
+        name: Name,
+    },
     /// `NO`: the answer to an invitation that is refused.
-    Reject { token: u32, ssrc: u32, name: Name },
+    Reject {
+        token: u32,
+        ssrc: u32,
+        name: Name,
+    },
     /// `BY`: the sender leaves.
-    Bye { token: u32, ssrc: u32 },
+    Bye {
+        token: u32,
+        ssrc: u32,
+    },
     /// `CK`: one step of a clock exchange, `count` of 0, 1 or 2, with the moments of the steps so far in units
     /// of 100 microseconds.
-    Clock { ssrc: u32, count: u8, times: [u64; 3] },
+    Clock {
+        ssrc: u32,
+        count: u8,
+        times: [u64; 3],
+    },
     /// `RS`: the last packet number, in its low 16 bits, that the receiver has taken.
-    Feedback { ssrc: u32, seq: u16 },
+    Feedback {
+        ssrc: u32,
+        seq: u16,
+    },
     /// `RL`: a limit on the rate, which is not looked at.
     RateLimit,
 }

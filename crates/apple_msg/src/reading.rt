@@ -1,8 +1,11 @@
 //! Octets to a message, from the front, with the first fault.
 
-ghost use Rattle.std.specs.Prelude.{◌≡◌, ◌≢◌, ◌<◌, ◌≤◌, length, take, position, All, IfSome};
+ghost use Rattle.std.specs.Prelude.{◌≡◌, ◌≢◌, ◌<◌, ◌≤◌, length, take, position, All, IfSome, Ok, Err, MatchResult};
 ghost use Rattle.std.specs.Int.{w16, w32, w64};
 ghost use Rattle.apple_msg.specs.Reading.{Gives, behind_mark, verb_of, verb_at, is_end, number_at, octet_at, behind, name_at, header_at, invitation_at, bye_at, clock_at, feedback_at, read_as, read};
+ghost use Rattle.apple_msg.specs.Grammar.{Spells, IsFirstFault};
+ghost use Rattle.apple_msg.specs.declared.message.Message.{Message};
+ghost use Rattle.apple_msg.specs.declared.message.MsgFault.{MsgFault};
 
 use crate::message::{Invitation, Message, MsgFault, Verb};
 use crate::name::Name;
@@ -203,12 +206,25 @@ fn read_as(verb: Verb, octets: &[u8]) -> Result<Message, MsgFault>
     }
 }
 
-/// The message that stands at the front of these octets, or the first fault in the order of [`MsgFault`].
 #[tactic(auto, unfolding(crate::specs::Reading::read))]
-pub fn read_message(b: &[u8]) -> Result<Message, MsgFault>
-    ensures reads { result ≡ read b.now }
+fn whole(octets: &[u8]) -> Result<Message, MsgFault>
+    ensures { result ≡ read octets.now }
 {
-    let rest = behind_mark(b)?;
+    let rest = behind_mark(octets)?;
     let (verb, rest) = verb_at(rest)?;
     read_as(verb, rest)
+}
+
+/// The message at the front of these octets, or the first fault in the order of [`MsgFault`]. Octets behind
+/// the 0 of a name or behind a fixed form are not looked at.
+pub fn read_message(b: &[u8]) -> Result<Message, MsgFault>
+    // What is read is spelled so, and a fault is the first that holds.
+    ensures reads { MatchResult result (Spells b.now) (IsFirstFault b.now) }
+    // What is spelled so is read, and the first fault is answered.
+    ensures only { (m : Message) → Spells b.now m → result ≡ Ok m }
+    ensures only_fault { (f : MsgFault) → IsFirstFault b.now f → result ≡ Err f }
+
+    ensures exact { result ≡ read b.now }
+{
+    whole(b)
 }
