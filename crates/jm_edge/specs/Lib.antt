@@ -1,0 +1,5 @@
+pub mod Faults
+pub mod Sink
+pub mod Source
+pub mod MemSource
+pub mod MemSink
