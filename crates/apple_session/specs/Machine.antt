@@ -11,7 +11,7 @@ use Rattle.apple_session.specs.declared.answer.Why.TheVariants.{Unknown, NotJoin
 use Rattle.apple_session.specs.declared.answer.PortKind.{PortKind}
 use Rattle.apple_session.specs.declared.answer.PortKind.TheVariants.{Ctl, Rtp}
 use Rattle.apple_session.specs.Host.{Host}
-use Rattle.apple_session.specs.Peers.{is_from, is_joined, is_waiting, peer_of, without, replaced}
+use Rattle.apple_session.specs.Peers.{is_joined, is_waiting, peer_of, without, replaced}
 
 -- the answer to a message, and the peers after it
 pub record Outcome : Type 0 where

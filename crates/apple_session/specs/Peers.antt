@@ -1,5 +1,5 @@
 -- The list of peers, in the order of their first invitations.
-use Rattle.std.specs.Prelude.{◌≡◌, ◌≢◌, ℕ, ◌≤◌, Bool, not, List, [], ◌∷◌, length, map, filter, find, Option, is_some, ◌==◌, if◌then◌else◌}
+use Rattle.std.specs.Prelude.{◌≢◌, ℕ, ◌≤◌, Bool, not, List, [], ◌∷◌, length, map, filter, find, Option, is_some, ◌==◌, if◌then◌else◌}
 use Rattle.apple_session.specs.declared.peer.Peer.{Peer}
 
 abbrev pub is_from : ℕ → Peer → Bool

@@ -9,6 +9,7 @@
 
 mod answer;
 mod clock;
+pub mod laws;
 mod list;
 mod peer;
 mod session;
@@ -16,3 +17,6 @@ mod session;
 pub use answer::{Act, Answer, PortKind, Why};
 pub use peer::Peer;
 pub use session::Session;
+
+#[cfg(test)]
+mod tests;

@@ -101,7 +101,9 @@ impl Session {
             Message::Bye { ssrc, .. } => self.on_bye(*ssrc),
             Message::Clock { ssrc, count, times } => self.on_clock(port, *ssrc, *count, times, now),
             Message::Feedback { ssrc, seq } => self.on_feedback(*ssrc, *seq),
-            _ => Answer::silent(Act::Ignored(Why::NotUsed)),
+            Message::Accept { .. } | Message::Reject { .. } | Message::RateLimit => {
+                Answer::silent(Act::Ignored(Why::NotUsed))
+            }
         }
     }
 
@@ -185,13 +187,10 @@ impl Session {
     fn on_data(&mut self, room: bool, from: Addr, token: u32, ssrc: u32) -> Answer
         ensures { Gives self.old self.new result (on_data self.old room from token ssrc) }
     {
-        let Some(peer) = peer_of(self.peers.as_slice(), ssrc) else {
-            return self.rejected(token);
-        };
-        if peer.token != token {
-            return self.rejected(token);
+        match peer_of(self.peers.as_slice(), ssrc) {
+            Some(peer) if peer.token == token => self.joining(room, from, peer),
+            _ => self.rejected(token),
         }
-        self.joining(room, from, peer)
     }
 
     fn joining(&mut self, room: bool, from: Addr, peer: Peer) -> Answer
@@ -263,12 +262,10 @@ impl Session {
     fn on_feedback(&self, ssrc: u32, seq: u16) -> Answer
         ensures { result ≡ (of_joined self.now (peer_of ssrc self.now.peers) (silent (Ack ssrc seq) self.now.peers)).answer }
     {
-        let Some(peer) = peer_of(self.peers.as_slice(), ssrc) else {
-            return Answer::silent(Act::Ignored(Why::Unknown));
-        };
-        if !peer.is_joined() {
-            return Answer::silent(Act::Ignored(Why::NotJoined));
+        match peer_of(self.peers.as_slice(), ssrc) {
+            Some(peer) if peer.is_joined() => Answer::silent(Act::Ack { ssrc, seq }),
+            Some(_) => Answer::silent(Act::Ignored(Why::NotJoined)),
+            None => Answer::silent(Act::Ignored(Why::Unknown)),
         }
-        Answer::silent(Act::Ack { ssrc, seq })
     }
 }

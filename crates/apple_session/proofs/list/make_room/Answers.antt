@@ -1,7 +1,7 @@
-use Rattle.std.proofs.Common.{◌≡◌, ◌<◌, ◌≤◌, Some, length, sym, ◌∙◌, arith}
+use Rattle.std.proofs.Common.{◌≡◌, Some, sym, ◌∙◌, arith}
 use Rattle.std.specs.Prelude.{find}
-use Rattle.apple_session.specs.Peers.{is_waiting, without}
-use Rattle.apple_session.proofs.PeerLists.{length-without-found}
+use Rattle.apple_session.specs.Peers.{is_waiting}
+use Rattle.apple_session.specs.PeerLists.{length-without-found}
 use Rattle.apple_session.proofs.list.make_room.Goals as goal
 
 pub returns-in-Some-clause-few : goal.returns-in-Some-clause-few

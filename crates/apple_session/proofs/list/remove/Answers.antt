@@ -1,8 +1,8 @@
-use Rattle.std.proofs.Common.{◌≡◌, ℕ, List, Some, None, sym, subst, ◌∙◌}
+use Rattle.std.proofs.Common.{◌≡◌, List, Some, None, sym, subst, ◌∙◌}
 use Rattle.std.specs.List.{position}
 use Rattle.apple_session.specs.declared.peer.Peer.{Peer}
-use Rattle.apple_session.specs.Peers.{is_from, without, Absent, IsOrderly}
-use Rattle.apple_session.proofs.PeerLists.{removed_at, without-Absent, Absent-no_place, Absent-without, IsOrderly-without}
+use Rattle.apple_session.specs.Peers.{is_from, Absent, IsOrderly}
+use Rattle.apple_session.specs.PeerLists.{removed_at, without-Absent, Absent-no_place, Absent-without, IsOrderly-without}
 use Rattle.apple_session.proofs.list.remove.Goals as goal
 
 pub returns-in-Some-clause-peers : goal.returns-in-Some-clause-peers

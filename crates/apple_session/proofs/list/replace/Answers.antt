@@ -3,7 +3,7 @@ use Rattle.std.specs.List.{position}
 use Rattle.std.proofs.Math.ListN.{set, length-set}
 use Rattle.apple_session.specs.declared.peer.Peer.{Peer}
 use Rattle.apple_session.specs.Peers.{is_from, IsOrderly}
-use Rattle.apple_session.proofs.PeerLists.{replaced_at, replaced-Absent, Absent-no_place, refill_same, IsOrderly-replaced}
+use Rattle.apple_session.specs.PeerLists.{replaced_at, replaced-Absent, Absent-no_place, refill_same, IsOrderly-replaced}
 use Rattle.apple_session.proofs.list.replace.Goals as goal
 
 pub returns-in-Some-clause-peers : goal.returns-in-Some-clause-peers

@@ -1,8 +1,7 @@
-use Rattle.std.proofs.Common.{◌≡◌, ◌≢◌, ℕ, List, None, ap}
-use Rattle.apple_session.specs.declared.peer.Peer.{Peer}
+use Rattle.std.proofs.Common.{◌≡◌, ◌≢◌, None, ap}
 use Rattle.apple_session.specs.Host.{Host}
 use Rattle.apple_session.specs.Peers.{peer_of, Absent}
-use Rattle.apple_session.proofs.PeerLists.{IsOrderly-push, Absent-no_peer}
+use Rattle.apple_session.specs.PeerLists.{IsOrderly-push, Absent-no_peer}
 use Rattle.apple_session.proofs.session.Session.newly_invited.Goals as goal
 
 pub invariant_of-self-2 : goal.invariant_of-self-2

@@ -1,11 +1,11 @@
 -- Lists of peers with distinct SSRCs.
-use Rattle.std.proofs.Common.{◌≡◌, ◌≢◌, ℕ, suc, ◌+◌, ◌<◌, ◌≤◌, Bool, true, false, not, cond, eqb, ltb, List, [], ◌∷◌, ◌++◌, length, map, filter, drop, Option, Some, None, refl, sym, ap, subst, ◌∙◌, arith, inl, inr, length-append}
-use Rattle.std.specs.Prelude.{find, is_some, remove, slice_set}
+use Rattle.std.proofs.Common.{◌≡◌, ◌≢◌, ℕ, suc, ◌+◌, ◌<◌, ◌≤◌, Bool, true, false, not, cond, eqb, List, [], ◌∷◌, ◌++◌, length, drop, Some, None, refl, sym, ap, subst, ◌∙◌, arith, inl, inr, length-append}
+use Rattle.std.specs.Prelude.{find, remove, slice_set}
 use Rattle.std.specs.List.{position, position_or_len, refill}
 use Rattle.std.proofs.lemmas.List.{take_at}
-use Rattle.std.proofs.lemmas.Bool.{cases_Bool, eq-eqb, eqb-true, eqb-false, ne_eqb, cases_lt, lt-ltb, le-ltb}
+use Rattle.std.proofs.lemmas.Bool.{eq-eqb, eqb-true, eqb-false, ne_eqb, cases_lt, lt-ltb, le-ltb}
 use Rattle.apple_session.specs.declared.peer.Peer.{Peer}
-use Rattle.apple_session.specs.Peers.{is_from, is_joined, is_waiting, peer_of, without, replaced, Absent, AreDistinct, IsOrderly}
+use Rattle.apple_session.specs.Peers.{is_from, peer_of, without, replaced, Absent, AreDistinct, IsOrderly}
 
 -- ---- an SSRC that no peer has
 
