@@ -1,5 +1,5 @@
-//! The messages of Apple's session protocol for MIDI over a network, both ways: invitations and their
-//! answers, byes, clock exchanges and the feedback of receivers.
+//! The messages of the Apple MIDI Network Driver Protocol, both ways: invitations and their answers, byes,
+//! clock exchanges and the feedback of receivers.
 //!
 //! A message is a value ([`Message`]), and its octets are read by [`read_message`] and written by
 //! [`write_message`]. Neither takes memory, and neither knows of a session: what a host does with a message

@@ -4,7 +4,7 @@ use crate::name::Name;
 use thiserror::Error;
 
 /// A message of the session protocol.
-#[derive(Debug, Drop)]
+#[derive(Debug, PartialEq, Eq, Drop)]
 pub enum Message {
     /// `IN`: the sender asks to take part. `token` is its number for this invitation, `ssrc` is its own.
     Invite {
@@ -43,6 +43,47 @@ pub enum Message {
     },
     /// `RL`: a limit on the rate, which is not looked at.
     RateLimit,
+}
+
+impl Message {
+    ghost use Rattle.std.specs.Prelude.{◌≡◌};
+
+    /// An equal message.
+    pub fn copy(&self) -> Message
+        ensures { result ≡ self.now }
+    {
+        match self {
+            Message::Invite { token, ssrc, name } => Message::Invite {
+                token: *token,
+                ssrc: *ssrc,
+                name: name.copy(),
+            },
+            Message::Accept { token, ssrc, name } => Message::Accept {
+                token: *token,
+                ssrc: *ssrc,
+                name: name.copy(),
+            },
+            Message::Reject { token, ssrc, name } => Message::Reject {
+                token: *token,
+                ssrc: *ssrc,
+                name: name.copy(),
+            },
+            Message::Bye { token, ssrc } => Message::Bye {
+                token: *token,
+                ssrc: *ssrc,
+            },
+            Message::Clock { ssrc, count, times } => Message::Clock {
+                ssrc: *ssrc,
+                count: *count,
+                times: *times,
+            },
+            Message::Feedback { ssrc, seq } => Message::Feedback {
+                ssrc: *ssrc,
+                seq: *seq,
+            },
+            Message::RateLimit => Message::RateLimit,
+        }
+    }
 }
 
 /// Why octets are no message; the first that holds, in this order.

@@ -9,7 +9,7 @@ use std::marker::Model;
 pub const MOST_OCTETS: usize = 63;
 
 /// A name: at most 63 octets, none of them 0.
-#[derive(Debug, Drop)]
+#[derive(Debug, PartialEq, Eq, Drop)]
 pub struct Name {
     octets: ArrayVec<u8, MOST_OCTETS>,
 }

@@ -60,6 +60,15 @@ fn fields(rt: HostRuntime) -> Result<(), Fail> {
 }
 
 #[test]
+fn copies(rt: HostRuntime) -> Result<(), Fail> {
+    for octets in [ACCEPTED, LAST_CLOCK] {
+        let message = read_message(octets)?;
+        assert!(rt; message.copy() == message);
+    }
+    Ok(())
+}
+
+#[test]
 fn faults(rt: HostRuntime) {
     for (octets, fault) in [
         (b"".as_slice(), MsgFault::NotApple),

@@ -35,7 +35,7 @@ pub enum Act {
     Leave(u32),
     /// The joined peer `ssrc` has received the packet whose number has these low 16 bits.
     Ack { ssrc: u32, seq: u16 },
-    /// A clock exchange came to its end: the peer's clock is behind the host's by this much, in units of 100
+    /// A clock exchange came to its end: the peer's clock shows this much more than the host's, in units of 100
     /// microseconds, rounded down.
     Clocked { offset: i128 },
     /// Nothing at all.
@@ -43,7 +43,7 @@ pub enum Act {
 }
 
 /// The reply to the sender, where there is one, and what the session is to do.
-#[derive(Debug, Drop)]
+#[derive(Debug, PartialEq, Eq, Drop)]
 pub struct Answer {
     pub reply: Option<Message>,
     pub act: Act,

@@ -3,8 +3,8 @@
 ghost use Rattle.std.specs.Prelude.{◌≡◌};
 ghost use Rattle.apple_session.specs.Machine.{offset};
 
-/// How far the peer's clock is behind the host's, in units of 100 microseconds: the middle of the two
-/// moments of the peer, rounded down, less the moment of the host.
+/// How much more the peer's clock shows than the host's, in units of 100 microseconds: the middle of the
+/// peer's two moments, rounded down, less the host's moment between them.
 pub fn offset(times: &[u64; 3]) -> i128
     ensures { result ≡ offset times.now }
 {

@@ -1,5 +1,5 @@
-//! The host's side of the session protocol: who was invited, who takes part, and what is answered to each
-//! message.
+//! The host's side of the Apple MIDI Network Driver Protocol: who was invited, who takes part, and what is
+//! answered to each message.
 //!
 //! [`Session`] is a deterministic machine. Addresses and moments come in as values and the reply goes out as
 //! one, so it opens no socket, reads no clock and takes no memory. It keeps at most 32 peers, in the order
