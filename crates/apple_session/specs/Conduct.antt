@@ -1,9 +1,11 @@
 -- What holds of the machine, in the words of those who use it.
-use Rattle.std.specs.Prelude.{◌≡◌, ◌≢◌, ℕ, ◌+◌, ◌*◌, ◌≤◌, ℤ, pos, ◌+ℤ◌, ◌-ℤ◌, ◌≤ℤ◌, ◌<ℤ◌, ◌⊎◌, Bool, true, List, [], ◌∷◌, ◌++◌, length, map, filter, fold, find, All, Option, Some, None, IfSome}
+use Rattle.std.specs.Prelude.{◌≡◌, ◌≢◌, ℕ, ◌+◌, ◌*◌, ◌≤◌, ℤ, pos, ◌+ℤ◌, ◌-ℤ◌, ◌≤ℤ◌, ◌<ℤ◌, ◌⊎◌, Bool, true, false, List, [], ◌∷◌, ◌++◌, length, map, filter, fold, find, All, Option, Some, None, IfSome}
 use Rattle.jm_edge.specs.declared.Addr.{Addr}
 use Rattle.apple_msg.specs.declared.message.Message.{Message}
 use Rattle.apple_msg.specs.declared.message.Message.TheVariants.{Invite, Accept, Reject, Bye, Clock, Feedback, RateLimit}
 use Rattle.apple_session.specs.declared.peer.Peer.{Peer}
+use Rattle.apple_session.specs.declared.answer.Act.{Act}
+use Rattle.apple_session.specs.declared.answer.Act.TheVariants.{Join, Leave}
 use Rattle.apple_session.specs.declared.answer.PortKind.{PortKind}
 use Rattle.apple_session.specs.declared.answer.PortKind.TheVariants.{Ctl, Rtp}
 use Rattle.apple_session.specs.Host.{Host}
@@ -127,3 +129,23 @@ pub record IsRoundedDown (first second third : ℕ) (o : ℤ) : Type 0 where
 
 abbrev pub OffsetsRoundDown : Type 0
 OffsetsRoundDown = (first second third : ℕ) → IsRoundedDown first second third (offset (first ∷ second ∷ third ∷ []))
+
+-- ---- the acts tell who takes part
+
+abbrev pub is_joined_one : Option Peer → Bool
+is_joined_one (Some peer) = is_joined peer
+is_joined_one None = false
+
+abbrev pub takes_part : ℕ → List Peer → Bool
+takes_part ssrc peers = is_joined_one (peer_of ssrc peers)
+
+-- a peer takes part from its Join to its Leave
+pub record Tells (ssrc : ℕ) (act : Act) (old new : List Peer) : Type 0 where
+  pub joins : act ≡ Join ssrc → (takes_part ssrc old ≡ false) × (takes_part ssrc new ≡ true)
+  pub leaves : act ≡ Leave ssrc → (takes_part ssrc old ≡ true) × (takes_part ssrc new ≡ false)
+  pub neither : act ≢ Join ssrc → act ≢ Leave ssrc → takes_part ssrc new ≡ takes_part ssrc old
+
+abbrev pub ActsTell : Type 0
+ActsTell = (host : Host) (room : Bool) (port : PortKind) (from : Addr) (message : Message) (now ssrc : ℕ)
+    → IsOrderly host.ssrc host.peers
+    → Tells ssrc (step host room port from message now).answer.act host.peers (step host room port from message now).peers

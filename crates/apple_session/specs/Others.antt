@@ -84,17 +84,17 @@ peer_of-without_own ssrc (peer ∷ peers) =
 
 -- ---- room for one more
 
-record HadRoom (peers others : List Peer) : Type 0 where
-  few : length peers < 32
-  others_are : others ≡ peers
+pub record HadRoom (peers others : List Peer) : Type 0 where
+  pub few : length peers < 32
+  pub others_are : others ≡ peers
 
-record MadeRoom (peers others : List Peer) : Type 0 where
-  full : 32 ≤ length peers
-  waiting : Peer
-  first : find is_waiting peers ≡ Some waiting
-  others_are : others ≡ without waiting.ssrc peers
+pub record MadeRoom (peers others : List Peer) : Type 0 where
+  pub full : 32 ≤ length peers
+  pub waiting : Peer
+  pub first : find is_waiting peers ≡ Some waiting
+  pub others_are : others ≡ without waiting.ssrc peers
 
-room_cases : (peers others : List Peer) → with_room peers ≡ Some others → HadRoom peers others ⊎ MadeRoom peers others
+pub room_cases : (peers others : List Peer) → with_room peers ≡ Some others → HadRoom peers others ⊎ MadeRoom peers others
 room_cases peers others e =
     elim (cases_lt (length peers) 32) [
       | inl lt ↦

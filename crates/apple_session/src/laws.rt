@@ -1,6 +1,6 @@
 //! What holds of the machine at all times, over the definitions that the contracts of this crate cite.
 
-ghost use Rattle.apple_session.specs.Conduct.{PeersStayOrderly, PeersCameByInvitation, OthersStay, JoinedStay, OrderStays, RepliesAreFinal, OffsetsRoundDown};
+ghost use Rattle.apple_session.specs.Conduct.{PeersStayOrderly, PeersCameByInvitation, OthersStay, JoinedStay, OrderStays, ActsTell, RepliesAreFinal, OffsetsRoundDown};
 
 /// After any calls a host has at most 32 peers, no two of one SSRC and none of its own.
 pub fn peers_stay_orderly()
@@ -28,6 +28,12 @@ pub fn joined_stay()
 /// A message leaves the peers in their order, without some of them perhaps, and puts at most one behind them.
 pub fn order_stays()
     ensures { OrderStays }
+{}
+
+/// A peer takes part from its `Join` to its `Leave`: it didn't before the one and does after it, did before the
+/// other and doesn't after it, and no other act changes whether it does.
+pub fn acts_tell()
+    ensures { ActsTell }
 {}
 
 /// What a host replies is never replied to, by any host.
