@@ -1,0 +1,4 @@
+pub mod Name
+pub mod Reading
+pub mod Spelling
+pub mod Grammar
