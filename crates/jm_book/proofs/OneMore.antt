@@ -12,8 +12,8 @@ use Rattle.jm_book.specs.Kept.{IsKept}
 use Rattle.std.proofs.Common.{◌-◌, ◌^◌, false, append_assoc}
 use Rattle.std.specs.Prelude.{nat_le, nat_lt, ◌||◌}
 use Rattle.std.proofs.lemmas.Bool.Decides.{nat_tests}
-use Rattle.jm_cmds.specs.declared.verbs.Command.{Command}
-use Rattle.jm_cmds.specs.declared.sent.Sent.{Sent}
+use Rattle.jm_cmds.specs.declared.commands.Command.{Command}
+use Rattle.jm_cmds.specs.declared.history.Sent.{Sent}
 use Rattle.jm_section.specs.declared.next.Place.TheVariants.{First}
 use Rattle.jm_section.specs.Section.{Timed, place_after}
 use Rattle.jm_book.specs.Pending.{timed_of, last_tick}

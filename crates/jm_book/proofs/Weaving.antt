@@ -1,6 +1,6 @@
 -- Marks and commands woven together, with one more at the end of each.
 use Rattle.std.proofs.Common.{ℕ, ◌+◌, ◌≡◌, ◌≤◌, List, [], ◌∷◌, ◌++◌, length, refl, ap, arith}
-use Rattle.jm_cmds.specs.declared.sent.Sent.{Sent}
+use Rattle.jm_cmds.specs.declared.history.Sent.{Sent}
 use Rattle.jm_book.specs.declared.steps.Step.TheVariants as step
 use Rattle.jm_book.specs.declared.tape.Bare.{Bare}
 use Rattle.jm_book.specs.declared.tape.Mark.{Mark}

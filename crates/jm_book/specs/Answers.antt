@@ -1,8 +1,8 @@
 -- What each call answers after a list of steps: each refusal exactly where it comes, in the calls' order.
 use Rattle.std.specs.Prelude.{ℕ, ◌+◌, ◌-◌, ◌≡◌, Bool, true, false, ◌==◌, ◌||◌, not, if◌then◌else◌, nat_lt, nat_le, List, [], ◌∷◌, ◌++◌, length, Option, Some, None, is_some}
-use Rattle.jm_cmds.specs.declared.verbs.Command.{Command}
-use Rattle.jm_cmds.specs.declared.verbs.Command.TheVariants.{Sysex}
-use Rattle.jm_cmds.specs.declared.sent.Sent.{Sent}
+use Rattle.jm_cmds.specs.declared.commands.Command.{Command}
+use Rattle.jm_cmds.specs.declared.commands.Command.TheVariants.{Sysex}
+use Rattle.jm_cmds.specs.declared.history.Sent.{Sent}
 use Rattle.jm_book.specs.declared.steps.Step.{Step}
 use Rattle.jm_book.specs.declared.steps.Config.{Config}
 use Rattle.jm_book.specs.declared.participants.Participant.{Participant}

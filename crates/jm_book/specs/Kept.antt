@@ -1,6 +1,6 @@
 -- How the fields of a book stand for the session after its steps.
 use Rattle.std.specs.Prelude.{◌≡◌, ◌≤◌, true, List, ◌++◌, length}
-use Rattle.jm_cmds.specs.declared.sent.Sent.{Sent}
+use Rattle.jm_cmds.specs.declared.history.Sent.{Sent}
 use Rattle.jm_section.specs.declared.next.Place.TheVariants.{First}
 use Rattle.jm_section.specs.Section.{list_text}
 use Rattle.jm_book.specs.declared.participants.Participant.{Participant}

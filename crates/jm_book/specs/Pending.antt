@@ -1,7 +1,7 @@
 -- Commands of one packet as a MIDI list: each with the ticks since the one before it.
 use Rattle.std.specs.Prelude.{ℕ, ◌-◌, ◌^◌, Bool, nat_lt, List, [], ◌∷◌}
 use Rattle.std.specs.List.{list_all}
-use Rattle.jm_cmds.specs.declared.sent.Sent.{Sent}
+use Rattle.jm_cmds.specs.declared.history.Sent.{Sent}
 use Rattle.jm_section.specs.declared.next.Place.{Place}
 use Rattle.jm_section.specs.Section.{Timed, place_after}
 

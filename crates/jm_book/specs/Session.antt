@@ -2,8 +2,8 @@
 use Rattle.std.specs.Prelude.{ℕ, zero, suc, ◌+◌, ◌-◌, ◌%◌, ◌≡◌, Bool, true, false, ◌==◌, max, if◌then◌else◌, nat_lt, List, [], ◌∷◌, ◌++◌, length, fold, Option, Some, None}
 use Rattle.std.specs.List.{list_any}
 use Rattle.std.proofs.Common.{refl, arith}
-use Rattle.jm_cmds.specs.declared.verbs.Command.{Command}
-use Rattle.jm_cmds.specs.declared.sent.Sent.{Sent}
+use Rattle.jm_cmds.specs.declared.commands.Command.{Command}
+use Rattle.jm_cmds.specs.declared.history.Sent.{Sent}
 use Rattle.jm_book.specs.declared.steps.Step.{Step}
 use Rattle.jm_book.specs.declared.steps.Step.TheVariants.{Enter, Play, Cut, Ack, Join}
 use Rattle.jm_book.specs.declared.participants.Participant.{Participant}

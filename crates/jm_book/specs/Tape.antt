@@ -1,6 +1,6 @@
 -- The tape: its steps, the commands of its plays, and for how many further steps it has room.
 use Rattle.std.specs.Prelude.{ℕ, ◌+◌, ◌-◌, ◌≡◌, ◌≤◌, min, List, [], ◌∷◌, ◌++◌, length}
-use Rattle.jm_cmds.specs.declared.sent.Sent.{Sent}
+use Rattle.jm_cmds.specs.declared.history.Sent.{Sent}
 use Rattle.jm_book.specs.declared.steps.Step.{Step}
 use Rattle.jm_book.specs.declared.steps.Step.TheVariants as step
 use Rattle.jm_book.specs.declared.tape.Bare.{Bare}

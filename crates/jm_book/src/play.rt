@@ -1,7 +1,7 @@
 //! A player's commands: which are taken, and what the pending list would be with one more.
 
 ghost use Rattle.std.specs.Prelude.{◌≡◌, ◌+◌, ◌≤◌, ◌∷◌, ◌++◌, max};
-ghost use Rattle.jm_cmds.specs.declared.verbs.Command.{Command};
+ghost use Rattle.jm_cmds.specs.declared.commands.Command.{Command};
 ghost use Rattle.jm_book.specs.Book.{IsReady, Takes};
 ghost use Rattle.jm_book.specs.Session.{session_of, tick_after};
 ghost use Rattle.jm_book.specs.Answers.{is_known, is_kept, delta_with, list_with, needs_cut, play_refusal, play_answer, is_accepted};

@@ -1,7 +1,7 @@
 -- The grammar of a script's lines.
 use Rattle.std.specs.Prelude.{ℕ, ◌^◌, ◌≤◌, Bool, true, false, ◌==◌, if◌then◌else◌, List, [], ◌∷◌, length, Option, Some, None, Result, Ok, Err}
-use Rattle.jm_cmds.specs.declared.verbs.Command.{Command}
-use Rattle.jm_cmds.specs.declared.verbs.Command.TheVariants.{NoteOff, NoteOn}
+use Rattle.jm_cmds.specs.declared.commands.Command.{Command}
+use Rattle.jm_cmds.specs.declared.commands.Command.TheVariants.{NoteOff, NoteOn}
 use Rattle.jm_cmds.specs.declared.reading.CmdFault.{CmdFault}
 use Rattle.jm_cmds.specs.Reading.{command_read}
 use Rattle.midi_host.specs.declared.words.Keyword.{Keyword}
