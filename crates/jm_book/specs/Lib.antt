@@ -1,5 +1,6 @@
 pub mod Answers
 pub mod Book
+pub mod Journal
 pub mod Kept
 pub mod Packet
 pub mod Pending

@@ -4,6 +4,7 @@
 mod answers;
 mod book;
 mod cut;
+mod journal;
 mod marks;
 mod participants;
 mod play;
