@@ -2,6 +2,8 @@ pub mod Answers
 pub mod Book
 pub mod Journal
 pub mod Kept
+pub mod Laws
+pub mod OrderLaws
 pub mod Packet
 pub mod Pending
 pub mod Session

@@ -5,6 +5,7 @@ mod answers;
 mod book;
 mod cut;
 mod journal;
+pub mod laws;
 mod marks;
 mod participants;
 mod play;

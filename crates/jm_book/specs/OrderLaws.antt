@@ -1,0 +1,62 @@
+-- The sent and pending commands of a session stand in the order of their packets.
+use Rattle.std.proofs.Common.{ℕ, ◌+◌, ◌≤◌, List, [], ◌∷◌, ◌++◌, length, arith}
+use Rattle.std.specs.List.{AllByRecursion}
+use Rattle.jm_cmds.specs.History.{InOrder}
+use Rattle.jm_cmds.specs.HistoryLaws.{AllByRecursion-weaker}
+use Rattle.jm_cmds.specs.Sent.{packet_of}
+use Rattle.jm_book.specs.declared.steps.Step.{Step}
+use Rattle.jm_book.specs.Session.{Session, Entry, Packet, session_of, as_sent, sent_from, sent_of, pending_of}
+
+pub AllByRecursion-append : {X : Type 0} (P : X → Type 0) (xs ys : List X) → AllByRecursion P xs → AllByRecursion P ys → AllByRecursion P (xs ++ ys)
+AllByRecursion-append P [] ys a b = b
+AllByRecursion-append P (x ∷ xs) ys a b = (a.0, AllByRecursion-append P xs ys a.1 b)
+
+-- two lists in order, where a number divides them
+pub InOrder-append : {X : Type 0} (at : X → ℕ) (between : ℕ) (xs ys : List X) → InOrder at xs → AllByRecursion (λ x. at x ≤ between) xs → AllByRecursion (λ y. between ≤ at y) ys → InOrder at ys → InOrder at (xs ++ ys)
+InOrder-append at between [] ys front below above back = back
+InOrder-append at between (x ∷ xs) ys front below above back =
+    let after_x = AllByRecursion-weaker (λ y. between ≤ at y) (λ y. at x ≤ at y) (λ y l. omega (arith, below.0)) ys above in
+    (AllByRecursion-append (λ y. at x ≤ at y) xs ys front.0 after_x, InOrder-append at between xs ys front.1 below.1 above back)
+
+-- the commands of one packet have its number
+pub as_sent_all : (P : ℕ → Type 0) (number : ℕ) (entries : List Entry) → P number → AllByRecursion (λ one. P (packet_of one)) (as_sent number entries)
+as_sent_all P number [] h = tt
+as_sent_all P number (one ∷ others) h = (h, as_sent_all P number others h)
+
+pub as_sent_in_order : (number : ℕ) (entries : List Entry) → InOrder packet_of (as_sent number entries)
+as_sent_in_order number [] = tt
+as_sent_in_order number (one ∷ others) =
+    (as_sent_all (λ packet. number ≤ packet) number others (omega arith), as_sent_in_order number others)
+
+-- the commands of packets from a number on have numbers from there on, and below the next
+pub sent_from_above : (number : ℕ) (packets : List Packet) → AllByRecursion (λ one. number ≤ packet_of one) (sent_from number packets)
+sent_from_above number [] = tt
+sent_from_above number (one ∷ others) =
+    let later = AllByRecursion-weaker (λ sent. number + 1 ≤ packet_of sent) (λ sent. number ≤ packet_of sent) (λ sent l. omega arith) (sent_from (number + 1) others) (sent_from_above (number + 1) others) in
+    AllByRecursion-append (λ sent. number ≤ packet_of sent) (as_sent number one.entries) (sent_from (number + 1) others) (as_sent_all (λ packet. number ≤ packet) number one.entries (omega arith)) later
+
+pub sent_from_below : (number : ℕ) (packets : List Packet) (next : ℕ) → number + length packets ≤ next → AllByRecursion (λ one. packet_of one + 1 ≤ next) (sent_from number packets)
+sent_from_below number [] next h = tt
+sent_from_below number (one ∷ others) next h =
+    AllByRecursion-append (λ sent. packet_of sent + 1 ≤ next) (as_sent number one.entries) (sent_from (number + 1) others) (as_sent_all (λ packet. packet + 1 ≤ next) number one.entries (omega arith)) (sent_from_below (number + 1) others next (omega arith))
+
+pub sent_from_in_order : (number : ℕ) (packets : List Packet) → InOrder packet_of (sent_from number packets)
+sent_from_in_order number [] = tt
+sent_from_in_order number (one ∷ others) =
+    let later = AllByRecursion-weaker (λ sent. number + 1 ≤ packet_of sent) (λ sent. number ≤ packet_of sent) (λ sent l. omega arith) (sent_from (number + 1) others) (sent_from_above (number + 1) others) in
+    InOrder-append packet_of number (as_sent number one.entries) (sent_from (number + 1) others) (as_sent_in_order number one.entries) (as_sent_all (λ packet. packet ≤ number) number one.entries (omega arith)) later (sent_from_in_order (number + 1) others)
+
+-- packet numbers never fall along the sent commands
+pub sent_in_order : (steps : List Step) → InOrder packet_of (sent_of (session_of steps))
+sent_in_order steps = sent_from_in_order 0 (session_of steps).packets
+
+-- every sent command is of a packet below the next one
+pub sent_below_next : (session : Session) → AllByRecursion (λ one. packet_of one + 1 ≤ length session.packets) (sent_of session)
+sent_below_next session = sent_from_below 0 session.packets (length session.packets) (omega arith)
+
+-- nor along the sent commands and those pending
+pub all_in_order : (session : Session) → InOrder packet_of (sent_of session ++ pending_of session)
+all_in_order session =
+    let next = length session.packets in
+    let sent = AllByRecursion-weaker (λ one. packet_of one + 1 ≤ next) (λ one. packet_of one ≤ next) (λ one l. omega arith) (sent_of session) (sent_below_next session) in
+    InOrder-append packet_of next (sent_of session) (pending_of session) (sent_from_in_order 0 session.packets) sent (as_sent_all (λ packet. next ≤ packet) next session.pending (omega arith)) (as_sent_in_order next session.pending)
