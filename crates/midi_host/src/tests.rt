@@ -15,8 +15,8 @@ fn runs(
     text: &[u8],
 ) -> Result<(Status, bool), Fail> {
     let words = [Word::new("replay", alloc)?];
-    let mut source = MemSource::new(input, reads, alloc)?;
-    let mut sink = MemSink::new(512, writes, alloc)?;
+    let mut source = MemSource::new(alloc, input, reads)?;
+    let mut sink = MemSink::new(alloc, 512, writes)?;
     let status = run(&words, &mut source, &mut sink, alloc);
     Ok((status, sink.as_slice() == text))
 }
@@ -76,8 +76,8 @@ fn other_words_are_refused(rt: HostRuntime) -> Result<(), Fail> {
         Word::new("replay", rt.alloc())?,
         Word::new("x", rt.alloc())?,
     ];
-    let mut source = MemSource::new(b"a\n", &[], rt.alloc())?;
-    let mut sink = MemSink::new(64, &[], rt.alloc())?;
+    let mut source = MemSource::new(rt.alloc(), b"a\n", &[])?;
+    let mut sink = MemSink::new(rt.alloc(), 64, &[])?;
     assert_eq!(rt;
         run(&words, &mut source, &mut sink, rt.alloc()),
         Status::Usage
