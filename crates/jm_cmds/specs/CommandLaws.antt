@@ -231,12 +231,11 @@ begins_message rest command size e =
         | inl t ↦ absurd (not_refused Short (command, size) (rw (few, t) at e))
         | inr some ↦ elim (cases_Bool (eqb (get_or rest n 0) 0xf7)) [
           | inl stop ↦
-              let read : (Sysex (take n rest), n + 2) ≡ (command, size) = same_read (Sysex (take n rest), n + 2) (command, size) (rw (few, some, stop) at e) in
               let inside : n < length rest = (let apart : n ≡ length rest → ⊥ = eqb-false n (length rest) some in omega arith) in
               let is_sysex = IsSysex-front rest n refl most (ltb-false 2046 n few) in
               let front = length-take-le n rest most in
               let whole : n + 2 ≡ length (spelling (Sysex (take n rest))) = grind (arith, length-append, add-one) in
-              subst (λ (r : Command × ℕ). BeginsWith (0xf0 ∷ rest) r.0 r.1) read
+              subst (λ (r : Command × ℕ). BeginsWith (0xf0 ∷ rest) r.0 r.1) (same_read (Sysex (take n rest), n + 2) (command, size) (rw (few, some, stop) at e))
               (record { bounds = is_sysex; whole = whole; split = split_message rest n inside (eqb-true (get_or rest n 0) 0xf7 stop) })
           | inr f ↦ absurd (not_refused (BadData (n + 1)) (command, size) (rw (few, some, f) at e))
         ]

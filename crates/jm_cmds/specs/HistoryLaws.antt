@@ -1,6 +1,6 @@
 -- What holds of every history, whatever ends what.
 use Rattle.std.proofs.Common.{◌≡◌, ℕ, zero, suc, ◌+◌, ◌≤◌, ◌<◌, Bool, true, false, not, cond, List, [], ◌∷◌, ◌++◌, ltb, leb, eqb, fold, refl, ap, sym, ◌∙◌, arith, inl, inr, take, drop, length, append-nil}
-use Rattle.std.specs.List.{list_any, AllByRecursion, filter, AllWithin}
+use Rattle.std.specs.List.{flat_map, list_any, AllByRecursion, filter, AllWithin}
 use Rattle.std.proofs.lemmas.Bool.{cases_Bool, ltb-true, ltb-false, leb-true, le-leb, lt-leb, or_parts}
 use Rattle.std.proofs.lemmas.Bool.Decides.{nat_tests}
 use Rattle.std.proofs.lemmas.List.{take-append-drop, get_or-take, get_or-drop, length-take-le, length-drop}
@@ -211,6 +211,17 @@ since-cut at p i xs c l =
     sym (ap (filter late) (sym (take-append-drop i xs))
     ∙ filter-append late (take i xs) (drop i xs)
     ∙ rw (filter_none late (take i xs) front, filter_all late (drop i xs) back) refl)
+
+-- ## Folds over the places that stand
+
+-- One place at a time: it is passed over where a later one ends it.
+pub fold-standing : {S X : Type 0} (ends : X → X → Bool) (step : S → X → S) (s : S) (x : X) (xs : List X) → fold step s (standing ends (x ∷ xs)) ≡ fold step (cond (list_any (ends x) xs) s (step s x)) (standing ends xs)
+fold-standing ends step s x xs =
+    elim (cases_Bool (list_any (ends x) xs)) [ inl t ↦ rw t refl | inr f ↦ rw f refl ]
+
+pub flat_map-standing : {X Y : Type 0} (ends : X → X → Bool) (text : X → List Y) (x : X) (xs : List X) → flat_map text (standing ends (x ∷ xs)) ≡ cond (list_any (ends x) xs) [] (text x) ++ flat_map text (standing ends xs)
+flat_map-standing ends text x xs =
+    elim (cases_Bool (list_any (ends x) xs)) [ inl t ↦ rw t refl | inr f ↦ rw f refl ]
 
 -- ## States along a history
 

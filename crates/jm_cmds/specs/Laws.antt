@@ -3,6 +3,7 @@ use Rattle.std.specs.Prelude.{◌≡◌, ℕ, ◌+◌, ◌≤◌, Bool, not, Lis
 use Rattle.jm_cmds.specs.declared.commands.Command.{Command}
 use Rattle.jm_cmds.specs.declared.history.Sent.{Sent}
 use Rattle.jm_cmds.specs.Command.{spelling, IsCommand}
+use Rattle.jm_cmds.specs.Control.{control_kind, control_number}
 use Rattle.jm_cmds.specs.CommandLaws.{BeginsWith}
 use Rattle.jm_cmds.specs.Reading.{command_read}
 use Rattle.jm_cmds.specs.History.{standing, since, below, within, coded, InOrder, Unended}
@@ -45,3 +46,7 @@ CodesDistinct = (ends : Sent → Sent → Bool) (checkpoint : ℕ) (sent : List 
 -- the history.
 abbrev pub CodesInOrder : Type 0
 CodesInOrder = (number_of : Sent → ℕ) (ends : Sent → Sent → Bool) (checkpoint : ℕ) (sent : List Sent) → InOrder number_of sent → InOrder number_of (coded ends packet_of checkpoint sent)
+
+-- The kind of a controller tells its number.
+abbrev pub KindTellsNumber : Type 0
+KindTellsNumber = (number : ℕ) → control_number (control_kind number) ≡ number

@@ -1,5 +1,6 @@
 pub mod Command
 pub mod Control
+pub mod ControlLaws
 pub mod Data
 pub mod DataLaws
 pub mod Gives

@@ -1,7 +1,7 @@
 //! What holds of the definitions that this crate's contracts cite. Each law is the contract of a
 //! function that does nothing.
 
-ghost use Rattle.jm_cmds.specs.Laws.{OneSpelling, ReadsSpelled, ReadsOnlySpelled, StandsLast, CodesRecent, CodesLess, CodesFresh, CodesDistinct, CodesInOrder};
+ghost use Rattle.jm_cmds.specs.Laws.{OneSpelling, ReadsSpelled, ReadsOnlySpelled, StandsLast, CodesRecent, CodesLess, CodesFresh, CodesDistinct, CodesInOrder, KindTellsNumber};
 
 /// Octets begin with at most one command, so a command is told by its octets, whatever follows.
 pub fn one_spelling()
@@ -46,4 +46,9 @@ pub fn codes_distinct()
 /// Coded places stand oldest first.
 pub fn codes_in_order()
     ensures { CodesInOrder }
+{}
+
+/// No two controllers have the same kind with the same number.
+pub fn kind_tells_number()
+    ensures { KindTellsNumber }
 {}
