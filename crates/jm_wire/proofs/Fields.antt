@@ -1,10 +1,8 @@
 -- Facts on the fields of delta times.
-use Rattle.std.proofs.Common.{◌≡◌, ℕ, zero, suc, ◌+◌, ◌*◌, ◌/◌, ◌%◌, ◌^◌, ◌<◌, ◌≤◌, Bool, true, false, cond, ltb, leb, List, [], ◌∷◌, ◌++◌, length, get_or, take, drop, Result, Ok, Err, refl, sym, ap, ◌∙◌, subst, arith, length-append, add-one}
-use Rattle.std.proofs.Math.Nat.{pow-succ', mul-lt-mul_of_pos_left}
+use Rattle.std.proofs.Common.{◌≡◌, ℕ, zero, suc, ◌+◌, ◌*◌, ◌%◌, ◌^◌, ◌<◌, ◌≤◌, List, [], ◌∷◌, ◌++◌, length, get_or, take, drop, Ok, Err, ap, arith, length-append, add-one}
+use Rattle.std.proofs.Math.Nat.{pow-succ'}
 use Rattle.std.proofs.Math.Seq.{drop-cons, take-suc, drop-length}
-use Rattle.std.proofs.lemmas.Bool.{lt-ltb, le-ltb}
 use Rattle.std.proofs.lemmas.Bool.Decides.{nat_tests}
-use Rattle.jm_wire.specs.declared.delta.DeltaFault.{DeltaFault}
 use Rattle.jm_wire.specs.declared.delta.DeltaFault.TheVariants.{Short, TooLong}
 use Rattle.jm_wire.specs.Delta.{value, high_run, delta_at}
 

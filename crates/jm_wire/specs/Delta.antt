@@ -1,5 +1,5 @@
 -- The delta field of RFC 6295, section 3.1, Figure 4: octets of seven bits each, the high bit set on all but the last.
-use Rattle.std.specs.Prelude.{◌≡◌, ℕ, ◌+◌, ◌*◌, ◌/◌, ◌%◌, ◌^◌, ◌<◌, ◌≤◌, Bool, true, false, ◌&&◌, List, [], ◌∷◌, ◌++◌, length, take, nat_lt, nat_le, if◌then◌else◌, IsTrue, Result, Ok, Err}
+use Rattle.std.specs.Prelude.{◌≡◌, ℕ, ◌+◌, ◌*◌, ◌/◌, ◌%◌, ◌^◌, ◌<◌, ◌≤◌, Bool, false, ◌&&◌, List, [], ◌∷◌, ◌++◌, length, take, nat_lt, nat_le, if◌then◌else◌, IsTrue, Result, Ok, Err}
 use Rattle.jm_wire.specs.declared.delta.DeltaFault.{DeltaFault}
 use Rattle.jm_wire.specs.declared.delta.DeltaFault.TheVariants.{Short, TooLong}
 

@@ -1,5 +1,5 @@
 -- What the definition of reading a delta field comes to, and its round trip with the writer.
-use Rattle.std.proofs.Common.{◌≡◌, ℕ, zero, suc, ◌+◌, ◌*◌, ◌/◌, ◌%◌, ◌^◌, ◌<◌, ◌≤◌, ◌↔◌, Bool, true, false, cond, ltb, leb, List, [], ◌∷◌, ◌++◌, length, get_or, take, drop, Result, Ok, Err, refl, sym, ap, ◌∙◌, subst, arith, inl, inr, length-append, add-one, IfOk}
+use Rattle.std.proofs.Common.{◌≡◌, ℕ, zero, suc, ◌+◌, ◌*◌, ◌%◌, ◌^◌, ◌<◌, ◌≤◌, ◌↔◌, List, [], ◌∷◌, ◌++◌, length, take, Result, Ok, Err, refl, ap, ◌∙◌, arith, inl, inr, length-append, add-one, IfOk}
 use Rattle.std.specs.Prelude.{IsTrue}
 use Rattle.std.proofs.Math.Nat.{pow-succ', mul-le-mul_right}
 use Rattle.std.proofs.Math.Seq.{take-append_seam}
@@ -8,7 +8,7 @@ use Rattle.std.proofs.lemmas.List.{length-take-le}
 use Rattle.std.proofs.lemmas.Bool.Decides.{nat_tests}
 use Rattle.jm_wire.specs.declared.delta.DeltaFault.{DeltaFault}
 use Rattle.jm_wire.specs.declared.delta.DeltaFault.TheVariants.{Short, TooLong}
-use Rattle.jm_wire.specs.Delta.{value, ends_at_last, high_run, delta, delta_at, IsField, IsReadAs, IsWrittenDelta}
+use Rattle.jm_wire.specs.Delta.{value, ends_at_last, high_run, delta_at, IsField, IsReadAs}
 
 pub value-below : (xs : List ℕ) → value xs < 128 ^ length xs
 value-below [] = omega arith

@@ -1,8 +1,7 @@
 -- The delta that is written for a number: a field of that number, and the shortest one.
-use Rattle.std.proofs.Common.{◌≡◌, ℕ, zero, suc, ◌+◌, ◌*◌, ◌/◌, ◌%◌, ◌^◌, ◌<◌, ◌≤◌, Bool, true, false, cond, ltb, leb, List, [], ◌∷◌, ◌++◌, length, Result, Ok, Err, refl, sym, ap, ◌∙◌, subst, arith, inl, inr}
+use Rattle.std.proofs.Common.{◌≡◌, ℕ, zero, suc, ◌+◌, ◌/◌, ◌%◌, ◌^◌, ◌<◌, ◌≤◌, List, [], ◌∷◌, ◌++◌, length, refl, ◌∙◌, arith, inl, inr}
 use Rattle.std.proofs.lemmas.Bool.{lt-ltb, le-ltb, le-leb, cases_lt}
-use Rattle.std.proofs.lemmas.Bool.Decides.{nat_tests}
-use Rattle.jm_wire.specs.Delta.{value, ends_at_last, delta, delta_at, IsField, IsWrittenDelta, DeltasReadBack}
+use Rattle.jm_wire.specs.Delta.{value, delta, IsField, IsWrittenDelta}
 use Rattle.jm_wire.specs.DeltaReading.{value-below, field_is_read}
 
 one : (v : ℕ) → v < 128 → delta v ≡ v ∷ []

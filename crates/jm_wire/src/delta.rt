@@ -5,6 +5,7 @@ ghost use Rattle.jm_wire.specs.Octets.{Appends};
 ghost use Rattle.jm_wire.specs.Delta.{delta, delta_at, value, high_run, IsField, IsReadAs};
 
 use crate::octets::Octets;
+use thiserror::Error;
 
 /// Appends the shortest spelling of `v`, one to four octets of seven bits, the high bit set on all
 /// but the last.
@@ -49,11 +50,13 @@ pub fn delta_len(v: u64) -> usize
 }
 
 /// Why no delta field stands at the front of octets.
-#[derive(Clone, Copy, Debug, PartialEq, Eq)]
+#[derive(Clone, Copy, PartialEq, Eq, Debug, Error)]
 pub enum DeltaFault {
     /// The octets end before the last octet of the field, and are fewer than four.
+    #[error("the octets end inside a delta field")]
     Short,
     /// The first four octets all have the high bit set.
+    #[error("a delta field of more than four octets")]
     TooLong,
 }
 

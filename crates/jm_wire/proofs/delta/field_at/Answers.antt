@@ -1,5 +1,5 @@
-use Rattle.std.proofs.Common.{get_or, refl, arith, ap, ◌+◌, ◌*◌, ◌<◌, length}
-use Rattle.jm_wire.proofs.Fields.{more, last_octet, no_octet, all_high, three_parts}
+use Rattle.std.proofs.Common.{get_or, refl, arith, ◌+◌, ◌*◌, ◌<◌, length}
+use Rattle.jm_wire.proofs.Fields.{more, last_octet, three_parts}
 use Rattle.jm_wire.proofs.delta.field_at.Goals as goal
 
 pub overflow_mul-value : goal.overflow_mul-value

@@ -1,4 +1,4 @@
-use Rattle.std.proofs.Common.{◌≡◌, ◌∙◌}
+use Rattle.std.proofs.Common.{◌∙◌}
 use Rattle.jm_wire.specs.DeltaReading.{read_as, field_is_read, short_is, too_long_is}
 use Rattle.jm_wire.proofs.delta.read_delta.Goals as goal
 

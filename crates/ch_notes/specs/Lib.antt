@@ -1,0 +1,11 @@
+pub mod NoteEvent
+pub mod ChapterN
+pub mod Shape
+pub mod ShapeLaws
+pub mod Count
+pub mod CountLaws
+pub mod CountBounds
+pub mod BitLaws
+pub mod ChapterLaws
+pub mod Fresh
+pub mod FreshLaws

@@ -1,0 +1,5 @@
+use Rattle.jm_cmds.specs.CommandLaws.{spelling-unique}
+use Rattle.jm_cmds.proofs.laws.one_spelling.Goals as goal
+
+pub returns : goal.returns
+returns c = spelling-unique

@@ -1,0 +1,20 @@
+-- Data octets: those of a command behind its status octet.
+use Rattle.std.specs.Prelude.{◌≡◌, ℕ, ◌≤◌, Bool, true, List, length, nat_lt}
+use Rattle.std.specs.List.{list_all, prefix_len}
+
+-- the high bit of a data octet is 0
+abbrev pub is_data : ℕ → Bool
+is_data octet = nat_lt octet 128
+
+-- each octet is a data octet
+abbrev pub IsData : List ℕ → Type 0
+IsData octets = list_all is_data octets ≡ true
+
+-- how many data octets stand at the front
+abbrev pub data_len : List ℕ → ℕ
+data_len octets = prefix_len is_data octets
+
+-- the data octets of a whole System Exclusive message
+pub record IsSysex (octets : List ℕ) : Type 0 where
+  pub octets_are_data : IsData octets
+  pub few : length octets ≤ 2046

@@ -1,0 +1,29 @@
+-- What holds of the data octets at the front.
+use Rattle.std.proofs.Common.{◌≡◌, ◌≤◌, ◌∷◌, [], ℕ, List, ltb, take, length, refl, arith, add-one, add_comm, inl, inr}
+use Rattle.std.proofs.Math.Seq.{take-length}
+use Rattle.std.proofs.lemmas.Bool.{cases_Bool}
+use Rattle.std.proofs.lemmas.List.{length-take-le}
+use Rattle.jm_cmds.specs.Data.{IsData, data_len, IsSysex}
+
+pub IsData-front : (xs : List ℕ) → IsData (take (data_len xs) xs)
+IsData-front [] = refl
+IsData-front (x ∷ xs) =
+    elim (cases_Bool (ltb x 128)) [
+      | inl t ↦ rw (t, add_comm 1 (data_len xs), add-one) (rw t (IsData-front xs))
+      | inr f ↦ rw f refl
+    ]
+
+pub IsData-whole : (xs : List ℕ) → length xs ≤ data_len xs → data_len xs ≤ length xs → IsData xs
+IsData-whole xs a b =
+    let e : data_len xs ≡ length xs = omega arith in
+    let w : take (data_len xs) xs ≡ xs = rw e (take-length xs) in
+    rw w at (IsData-front xs)
+
+pub IsSysex-front : (xs : List ℕ) (n : ℕ) → n ≡ data_len xs → n ≤ length xs → n ≤ 2046 → IsSysex (take n xs)
+IsSysex-front xs n e l m =
+    record {
+      octets_are_data = rw e (IsData-front xs);
+      few = rw (length-take-le n xs l) m;
+    }
+
+pub ruleset on_data = (IsData-front, IsData-whole)

@@ -1,0 +1,14 @@
+pub mod Command
+pub mod Control
+pub mod ControlLaws
+pub mod Data
+pub mod DataLaws
+pub mod Gives
+pub mod SysexMade
+pub mod Spelled
+pub mod Reading
+pub mod History
+pub mod HistoryLaws
+pub mod Sent
+pub mod CommandLaws
+pub mod Laws

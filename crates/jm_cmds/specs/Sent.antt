@@ -1,0 +1,23 @@
+-- The places of a session's history.
+use Rattle.std.specs.Prelude.{ℕ, ◌+◌, Bool, true, List, [], ◌∷◌, ◌==◌, nat_le, if◌then◌else◌}
+use Rattle.jm_cmds.specs.declared.history.Sent.{Sent}
+
+abbrev pub packet_of : Sent → ℕ
+packet_of sent = sent.packet
+
+abbrev pub tick_of : Sent → ℕ
+tick_of sent = sent.tick
+
+-- whether it went out in the packet before this one
+abbrev pub is_fresh : ℕ → Sent → Bool
+is_fresh packet sent = sent.packet + 1 == packet
+
+-- The S bit of its log in this packet's journal, as the high bit of an octet: 0 where the command went
+-- out in the packet before (RFC 6295, A.1).
+abbrev pub s_bit : ℕ → Sent → ℕ
+s_bit packet sent = if is_fresh packet sent then 0 else 128
+
+-- whether the first of these, if there is one, is in this packet or a later one
+abbrev pub first_from : ℕ → List Sent → Bool
+first_from packet [] = true
+first_from packet (next ∷ later) = nat_le packet next.packet

@@ -1,0 +1,10 @@
+-- The octets that a `Spelled` stands for.
+use Rattle.std.specs.Prelude.{ℕ, List, [], ◌∷◌, ◌++◌}
+use Rattle.jm_cmds.specs.declared.commands.Spelled.{Spelled}
+use Rattle.jm_cmds.specs.declared.commands.Spelled.TheVariants.{One, Two, Three, Message}
+
+abbrev pub octets_of : Spelled → List ℕ
+octets_of (One status) = status ∷ []
+octets_of (Two status first) = status ∷ first ∷ []
+octets_of (Three status first second) = status ∷ first ∷ second ∷ []
+octets_of (Message octets) = 0xf0 ∷ (octets.now ++ 0xf7 ∷ [])

@@ -1,0 +1,54 @@
+//! What holds of the definitions that this crate's contracts cite. Each law is the contract of a
+//! function that does nothing.
+
+ghost use Rattle.jm_cmds.specs.Laws.{OneSpelling, ReadsSpelled, ReadsOnlySpelled, StandsLast, CodesRecent, CodesLess, CodesFresh, CodesDistinct, CodesInOrder, KindTellsNumber};
+
+/// Octets begin with at most one command, so a command is told by its octets, whatever follows.
+pub fn one_spelling()
+    ensures { OneSpelling }
+{}
+
+/// Reading what is spelled gives the command back, whatever follows.
+pub fn reads_spelled()
+    ensures { ReadsSpelled }
+{}
+
+/// What is read is spelled at the front, in as many octets as are told.
+pub fn reads_only_spelled()
+    ensures { ReadsOnlySpelled }
+{}
+
+/// When a command is sent, the places that it ends no longer stand, and it stands itself.
+pub fn stands_last()
+    ensures { StandsLast }
+{}
+
+/// A journal needs only the packets from its checkpoint on.
+pub fn codes_recent()
+    ensures { CodesRecent }
+{}
+
+/// A greater checkpoint is a filter on what is coded.
+pub fn codes_less()
+    ensures { CodesLess }
+{}
+
+/// What the last packet brought is a filter on what is coded.
+pub fn codes_fresh()
+    ensures { CodesFresh }
+{}
+
+/// No coded place is ended by another one.
+pub fn codes_distinct()
+    ensures { CodesDistinct }
+{}
+
+/// Coded places stand oldest first.
+pub fn codes_in_order()
+    ensures { CodesInOrder }
+{}
+
+/// No two controllers have the same kind with the same number.
+pub fn kind_tells_number()
+    ensures { KindTellsNumber }
+{}

@@ -1,0 +1,27 @@
+//! MIDI commands and their octets, and the history of commands that a session has sent.
+//!
+//! A `Command` is one MIDI 1.0 command as RFC 6295, Appendix E lists them, with its channel and its
+//! data octets as numbers whose bounds the types keep. `read_command` reads one from octets, and the
+//! definition `spelling` says which octets are one. This crate knows nothing of delta times, of
+//! running status or of packets: those stand in the crates above.
+#![tactic(auto)]
+
+mod commands;
+mod controls;
+mod history;
+pub mod laws;
+mod numbers;
+mod outcome;
+mod reading;
+mod system_exclusive;
+
+pub use commands::{Command, Spelled};
+pub use controls::ControlKind;
+pub use history::{Sent, checkpoint_history, first_place, in_order, place_of, session_history};
+pub use numbers::{Channel, D7, D14};
+pub use outcome::ReadError;
+pub use reading::{CmdFault, read_command};
+pub use system_exclusive::{Sysex, SysexFault};
+
+#[cfg(test)]
+mod tests;

@@ -1,0 +1,140 @@
+//! System Exclusive messages.
+
+ghost use Rattle.std.specs.Prelude.{◌≡◌, ◌==◌, ◌≤◌, length, IfOk};
+ghost use Rattle.jm_cmds.specs.Data.{IsSysex, data_len};
+ghost use Rattle.jm_cmds.specs.SysexMade.{sysex_made};
+ghost use Rattle.jm_cmds.specs.Gives.{Gives};
+
+use crate::outcome::ReadError;
+use std::alloc::{AllocError, Global};
+use std::marker::Model;
+use thiserror::Error;
+
+/// How many data octets stand at the front.
+pub(crate) fn data_len(octets: &[u8]) -> usize
+    ensures number { result ≡ data_len octets.now }
+    ensures bound { result ≤ length octets.now }
+{
+    for (i, octet) in octets.iter().enumerate() {
+        if *octet >= 128 {
+            return i;
+        }
+    }
+    octets.len()
+}
+
+/// Why octets are no System Exclusive message of this host.
+#[derive(Clone, Copy, PartialEq, Eq, Debug, Error)]
+pub enum SysexFault {
+    /// The octet at this place, counted from 0, is over 0x7F. It is the first such octet.
+    #[error("octet {0} is no data octet")]
+    BadData(usize),
+    /// There are more than 2,046 octets, all of them data octets.
+    #[error("{len} data octets are too many")]
+    TooLong { len: usize },
+}
+
+/// A whole System Exclusive message (RFC 6295, Appendix E): at most 2,046 data octets, without the F0
+/// before them and the F7 behind.
+#[derive(Debug, Drop)]
+pub struct Sysex {
+    octets: Vec<u8>,
+}
+
+impl Model for Sysex {
+    ghost use Rattle.std.specs.Prelude.{List, ℕ};
+    ghost use Rattle.jm_cmds.specs.Data.{IsSysex};
+
+    ghost Value = { List ℕ };
+
+    ghost view = { λ s. s.octets.items };
+
+    ghost invariant = { λ s. IsSysex s.octets.items };
+}
+
+impl Sysex {
+    /// The most data octets that a message has.
+    pub const MOST: usize = 2046;
+
+    /// A message of these data octets. It is `BadData` at the first octet over 0x7F, else `TooLong`
+    /// exactly where there are over 2,046 of them.
+    #[tactic(auto, using(crate::specs::DataLaws::on_data))]
+    pub fn new(octets: &[u8], alloc: Global) -> Result<Sysex, ReadError<SysexFault>>
+        ensures { Gives result (sysex_made octets.now) }
+    {
+        let place = data_len(octets);
+        if place < octets.len() {
+            return Err(ReadError::Fault(SysexFault::BadData(place)));
+        }
+        if octets.len() > Self::MOST {
+            return Err(ReadError::Fault(SysexFault::TooLong { len: octets.len() }));
+        }
+        Ok(Sysex {
+            octets: Vec::from_slice(alloc, octets)?,
+        })
+    }
+
+    /// A message of octets that are known to be one.
+    pub(crate) fn of(octets: &[u8], alloc: Global) -> Result<Sysex, AllocError>
+        requires { IsSysex octets.now }
+        ensures { IfOk result (λ message. message ≡ octets.now) }
+    {
+        Ok(Sysex {
+            octets: Vec::from_slice(alloc, octets)?,
+        })
+    }
+
+    /// The data octets.
+    pub fn as_slice(&self) -> &[u8]
+        ensures octets { result.now ≡ self.now }
+        ensures data { IsSysex self.now }
+    {
+        self.octets.as_slice()
+    }
+
+    /// The number of data octets, from 0 to 2,046.
+    pub fn len(&self) -> usize
+        ensures number { result ≡ length self.now }
+        ensures bound { result ≤ 2046 }
+    {
+        self.octets.len()
+    }
+
+    /// Whether there is no data octet.
+    pub fn is_empty(&self) -> bool
+        ensures { result ≡ (length self.now == 0) }
+    {
+        self.octets.is_empty()
+    }
+
+    /// A message of the same data octets.
+    pub fn copy(&self, alloc: Global) -> Result<Sysex, AllocError>
+        ensures { IfOk result (λ copied. copied ≡ self.now) }
+    {
+        Ok(Sysex {
+            octets: Vec::from_slice(alloc, self.octets.as_slice())?,
+        })
+    }
+}
+
+impl PartialEq for Sysex {
+    ghost use Rattle.std.specs.Prelude.{nat_eq};
+    ghost use Rattle.std.proofs.Common.{rules};
+    ghost use Rattle.std.specs.Cmp.Lexicographic.{pointwise};
+    ghost use Rattle.std.specs.Cmp.Rules.{comparing};
+
+    ghost eq = { pointwise nat_eq };
+
+    ghost laws = { Prim.search (comparing, rules) };
+
+    fn eq(&self, other: &Sysex) -> bool {
+        self.as_slice() == other.as_slice()
+    }
+}
+
+impl Eq for Sysex {
+    ghost use Rattle.std.proofs.Common.{rules};
+    ghost use Rattle.std.specs.Cmp.Rules.{comparing};
+
+    ghost laws = { Prim.search (comparing, rules) };
+}

@@ -1,0 +1,7 @@
+pub mod Running
+pub mod Section
+pub mod Pieces
+pub mod Grammar
+pub mod Reading
+pub mod Faults
+pub mod Laws
