@@ -17,7 +17,9 @@ pub struct ReadSource<R> {
 
 impl<R: Read> ReadSource<R> {
     /// A source over `reader`, with no faults counted yet.
-    pub fn new(reader: R) -> Self {
+    pub fn new(reader: R) -> Self
+        ensures { ⟦<ReadSource<R> as Source>⟧.faults result ≡ 0 }
+    {
         ReadSource { reader, faults: 0 }
     }
 }
@@ -48,7 +50,9 @@ pub struct WriteSink<W> {
 
 impl<W: Write> WriteSink<W> {
     /// A sink over `writer`, with no faults counted yet.
-    pub fn new(writer: W) -> Self {
+    pub fn new(writer: W) -> Self
+        ensures { ⟦<WriteSink<W> as Sink>⟧.faults result ≡ 0 }
+    {
         WriteSink { writer, faults: 0 }
     }
 }

@@ -1,0 +1,4 @@
+pub mod TextLemmas
+pub mod PageLemmas
+pub mod WroteLemmas
+pub mod Progress

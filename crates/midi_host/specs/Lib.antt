@@ -1,0 +1,10 @@
+pub mod Text
+pub mod Told
+pub mod Heard
+pub mod ToldBy
+pub mod Echo
+pub mod Run
+pub mod Page
+pub mod Wrote
+pub mod Ends
+pub mod Number

@@ -1,0 +1,51 @@
+//! The program: a verb's script is read from standard input, and its answers go to standard output.
+#![tactic(auto)]
+
+mod answering;
+mod echo;
+mod page;
+mod run;
+mod status;
+mod verb;
+mod word;
+mod writing;
+
+use jm_edge::{ReadSource, WriteSink};
+use run::run;
+use status::Status;
+use std::alloc::{AllocError, Global};
+use std::env;
+use std::io::{self, ErrorKind};
+use std::process::ExitCode;
+use std::rt::Env;
+use word::Word;
+
+const USAGE: &str = "usage: midi_host replay";
+
+// The words after the program's name.
+fn words(rt: &(impl Env + AllocGlobal)) -> io::Result<Vec<Word>> {
+    let mut words = Vec::new(rt.alloc());
+    for text in env::args(rt)?.skip(1) {
+        words.push(Word::new(rt.alloc(), text.as_str())?)?;
+    }
+    Ok(words)
+}
+
+fn main(rt: HostRuntime) -> ExitCode {
+    let status = match words(&rt) {
+        Ok(words) => {
+            let mut source = ReadSource::new(rt.stdin());
+            let mut sink = WriteSink::new(rt.stdout());
+            run(rt.alloc(), words.as_slice(), &mut source, &mut sink)
+        }
+        Err(error) if error.kind() == ErrorKind::OutOfMemory => Status::NoMemory,
+        Err(_) => Status::Usage,
+    };
+    if status == Status::Usage {
+        let _ = eprintln!(rt; "{USAGE}");
+    }
+    ExitCode::from(status.number())
+}
+
+#[cfg(test)]
+mod tests;
