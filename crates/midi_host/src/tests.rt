@@ -33,7 +33,7 @@ fn no_lines_have_no_answers(rt: HostRuntime) -> Result<(), Fail> {
 #[test]
 fn first_note_becomes_a_packet(rt: HostRuntime) -> Result<(), Fail> {
     let text =
-        b"session\nplayer 0\naccepted 0 kept\npacket 0 80e10000000000641122334403903c64\npacket 1 80610001000000c81122334400\n";
+        b"session\nplayer 0\naccepted 0 kept\npacket 0 80e10000000000641122334403903c64\npacket 1 80610001000000c8112233444020000000070881f03ce4\n";
     assert_eq!(rt;
         runs(rt.alloc(), FIRST_NOTE, &[], &[], text)?,
         (Status::Done, true)
