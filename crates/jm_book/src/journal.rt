@@ -126,6 +126,11 @@ pub(crate) fn write_journal(list: &[Sent], span: Span, out: &mut Octets)
     requires room { 4371 ≤ out.old.spare }
     ensures { Appends out.old out.new (journal span.from span.packet span.tick list.now) }
 {
-    write_head(is_fresh(list, span), count_channels(list, span), span.from, out);
+    write_head(
+        is_fresh(list, span),
+        count_channels(list, span),
+        span.from,
+        out,
+    );
     write_channels(list, span, out);
 }

@@ -24,7 +24,7 @@ returns c =
     let span = c.args.span in
     let all = flat_map (channel_journal span.from span.packet span.tick c.args.list.now) channels in
     let octets : c.loop-number.out.octets ≡ c.args.out.now.octets ++ all =
-        sym (append-nil c.loop-number.out.octets) ∙ rw (channels_from_none c.loop-number.number (omega arith)) at c.loop-number.invariant.text in
+    sym (append-nil c.loop-number.out.octets) ∙ rw (channels_from_none c.loop-number.number (omega arith)) at c.loop-number.invariant.text in
     let whole = rw octets at c.loop-number.invariant.whole in
     record {
       octets = octets;
