@@ -6,4 +6,6 @@ pub mod OrderLaws
 pub mod Packet
 pub mod Pending
 pub mod Session
+pub mod StepLaws
 pub mod Tape
+pub mod TickLaws
