@@ -1,12 +1,11 @@
 -- One more step, and what the fields of a book then stand for.
 use Rattle.std.proofs.Common.{ℕ, ◌≡◌, ◌+◌, ◌<◌, ◌≤◌, refl, List, [], ◌∷◌, ◌++◌, length, Some, arith, length-append}
 use Rattle.jm_book.specs.declared.steps.Config.{Config}
-use Rattle.jm_book.specs.declared.steps.Step.{Step}
 use Rattle.jm_book.specs.declared.steps.Step.TheVariants.{Ack, Play, Cut}
 use Rattle.jm_book.specs.declared.participants.Participant.{Participant}
 use Rattle.jm_book.specs.declared.progress.Progress.{Progress}
 use Rattle.jm_book.specs.Tape.{Taped}
-use Rattle.jm_book.specs.Session.{Session, session_of, after, nothing, find_joined, moved, distance, length_moved, length_as_sent}
+use Rattle.jm_book.specs.Session.{session_of, after, find_joined, moved, distance, length_moved, length_as_sent}
 use Rattle.jm_book.specs.Kept.{IsKept}
 use Rattle.std.proofs.Common.{◌-◌, ◌^◌, false, append_assoc}
 use Rattle.std.specs.Prelude.{nat_le, nat_lt, ◌||◌}

@@ -5,6 +5,8 @@ pub mod Laws
 pub mod OrderLaws
 pub mod Packet
 pub mod Pending
+pub mod PlayLaws
+pub mod Plays
 pub mod Session
 pub mod StepLaws
 pub mod Tape

@@ -6,7 +6,6 @@ use Rattle.jm_cmds.specs.declared.history.Sent.{Sent}
 use Rattle.jm_cmds.specs.History.{InOrder}
 use Rattle.jm_cmds.specs.HistoryLaws.{AllByRecursion-weaker}
 use Rattle.jm_cmds.specs.Sent.{tick_of}
-use Rattle.jm_cmds.specs.declared.commands.Command.{Command}
 use Rattle.jm_book.specs.declared.steps.Step.{Step}
 use Rattle.jm_book.specs.declared.steps.Step.TheVariants.{Enter, Play, Cut, Ack, Join}
 use Rattle.jm_book.specs.declared.participants.Participant.{Participant}
