@@ -1,10 +1,12 @@
 -- What the laws of this crate say of every list of steps.
-use Rattle.std.specs.Prelude.{ℕ, ◌≡◌, ◌≤◌, ◌==◌, List, ◌++◌, map, filter}
+use Rattle.std.specs.Prelude.{ℕ, ◌≡◌, ◌≤◌, ◌==◌, List, [], ◌∷◌, ◌++◌, map, filter}
 use Rattle.std.specs.List.{AllByRecursion, range_with_len}
 use Rattle.jm_cmds.specs.History.{InOrder}
 use Rattle.jm_cmds.specs.Sent.{packet_of, tick_of}
+use Rattle.jm_book.specs.declared.steps.Config.{Config}
 use Rattle.jm_book.specs.declared.steps.Step.{Step}
-use Rattle.jm_book.specs.Session.{Entry, session_of, sent_of, pending_of}
+use Rattle.jm_book.specs.Session.{Entry, session_of, sent_of, pending_of, checkpoint_of}
+use Rattle.jm_book.specs.Legal.{IsTaken, IsLegal}
 use Rattle.jm_book.specs.Plays.{play_count, greatest_tick, plays_of, played_by, entries_of, sent_pair, entry_pair}
 
 -- Packet numbers never fall along the sent commands, nor along those and the pending ones.
@@ -35,3 +37,15 @@ CountsPlays = (steps : List Step) → ((session_of steps).plays ≡ play_count s
 -- The plain list of sent and pending commands has the ticks and commands of those entries, in order.
 abbrev pub SendsEntries : Type 0
 SendsEntries = (steps : List Step) → map sent_pair (sent_of (session_of steps) ++ pending_of (session_of steps)) ≡ map entry_pair (entries_of (session_of steps))
+
+-- No steps are legal, and with one more taken step legal steps are legal.
+abbrev pub TakesLegally : Type 0
+TakesLegally = (config : Config) → IsLegal config [] × ((steps : List Step) (step : Step) → IsLegal config steps → IsTaken config steps step → IsLegal config (steps ++ step ∷ []))
+
+-- The steps before the last of legal ones are legal, and the last is taken after them.
+abbrev pub TookLegally : Type 0
+TookLegally = (config : Config) (steps : List Step) (step : Step) → IsLegal config (steps ++ step ∷ []) → IsLegal config steps × IsTaken config steps step
+
+-- The checkpoint passes no joined participant's mark.
+abbrev pub PassesNoMark : Type 0
+PassesNoMark = (steps : List Step) → AllByRecursion (λ one. checkpoint_of (session_of steps) ≤ one.mark) (session_of steps).joined

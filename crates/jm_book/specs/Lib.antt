@@ -2,6 +2,9 @@ pub mod Answers
 pub mod Book
 pub mod Kept
 pub mod Laws
+pub mod Legal
+pub mod LegalLaws
+pub mod MarkLaws
 pub mod OrderLaws
 pub mod Packet
 pub mod Pending

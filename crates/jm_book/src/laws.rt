@@ -1,7 +1,7 @@
 //! What holds of every session, over the definitions that this crate's contracts cite. Each law is the
 //! contract of a function that does nothing.
 
-ghost use Rattle.jm_book.specs.Laws.{PacketsInOrder, TicksInOrder, KeepsPlays, NumbersPlays, KeepsPlayersInOrder, CountsPlays, SendsEntries};
+ghost use Rattle.jm_book.specs.Laws.{PacketsInOrder, TicksInOrder, KeepsPlays, NumbersPlays, KeepsPlayersInOrder, CountsPlays, SendsEntries, TakesLegally, TookLegally, PassesNoMark};
 
 /// Packet numbers never fall along the sent commands, nor along those and the pending ones.
 pub fn packets_in_order()
@@ -38,4 +38,19 @@ pub fn counts_plays()
 /// The plain list of sent and pending commands has the ticks and commands of those entries, in order.
 pub fn sends_entries()
     ensures { SendsEntries }
+{}
+
+/// No steps are legal, and with one more step that is taken after them, legal steps are legal.
+pub fn takes_legally()
+    ensures { TakesLegally }
+{}
+
+/// The steps before the last of legal ones are legal, and the last is taken after them.
+pub fn took_legally()
+    ensures { TookLegally }
+{}
+
+/// The checkpoint passes no joined participant's mark.
+pub fn passes_no_mark()
+    ensures { PassesNoMark }
 {}
