@@ -12,17 +12,7 @@ use Rattle.std.specs.Prelude.{if◌then◌else◌}
 use Rattle.jm_section.specs.Section.{header as section_header}
 use Rattle.jm_section.specs.Section.{Timed, piece, pieces, place_after, list_text}
 use Rattle.jm_book.specs.Pending.{timed_after, timed_of, first_tick, last_tick, place_through, have_fields}
-use Rattle.jm_book.specs.Session.{Entry, Packet, packet_tick, as_sent, sent_from}
-
-pub as_sent_push : (packet : ℕ) (entries : List Entry) (one : Entry) → as_sent packet (entries ++ one ∷ []) ≡ as_sent packet entries ++ record { packet = packet; tick = one.tick; command = one.command } ∷ []
-as_sent_push packet [] one = refl
-as_sent_push packet (first ∷ others) one = ap (λ (xs : List Sent). record { packet = packet; tick = first.tick; command = first.command } ∷ xs) (as_sent_push packet others one)
-
-pub sent_from_push : (number : ℕ) (packets : List Packet) (one : Packet) → sent_from number (packets ++ one ∷ []) ≡ sent_from number packets ++ as_sent (number + length packets) one.entries
-sent_from_push number [] one = rw (append-nil (as_sent number one.entries)) (let same : number + 0 ≡ number = omega arith in rw same refl)
-sent_from_push number (first ∷ others) one =
-    let same : number + 1 + length others ≡ number + length (first ∷ others) = omega arith in
-    rw (sent_from_push (number + 1) others one, same) (sym (append_assoc (as_sent number first.entries) (sent_from (number + 1) others) (as_sent (number + length (first ∷ others)) one.entries)))
+use Rattle.jm_book.specs.Session.{Entry, packet_tick, as_sent}
 
 pub last_tick_push : (other : ℕ) (sent : List Sent) (one : Sent) → last_tick other (sent ++ one ∷ []) ≡ one.tick
 last_tick_push other [] one = refl

@@ -1,13 +1,11 @@
 -- One more step, and what the fields of a book then stand for.
 use Rattle.std.proofs.Common.{ℕ, ◌≡◌, ◌+◌, ◌<◌, ◌≤◌, refl, List, [], ◌∷◌, ◌++◌, length, Some, arith, length-append}
-use Rattle.std.proofs.lemmas.List.Sums.{fold-append}
 use Rattle.jm_book.specs.declared.steps.Config.{Config}
-use Rattle.jm_book.specs.declared.steps.Step.{Step}
 use Rattle.jm_book.specs.declared.steps.Step.TheVariants.{Ack, Play, Cut}
 use Rattle.jm_book.specs.declared.participants.Participant.{Participant}
 use Rattle.jm_book.specs.declared.progress.Progress.{Progress}
 use Rattle.jm_book.specs.Tape.{Taped}
-use Rattle.jm_book.specs.Session.{Session, session_of, after, nothing, find_joined, moved, distance, length_moved, length_as_sent}
+use Rattle.jm_book.specs.Session.{session_of, after, find_joined, moved, distance, length_moved, length_as_sent}
 use Rattle.jm_book.specs.Kept.{IsKept}
 use Rattle.std.proofs.Common.{◌-◌, ◌^◌, false, append_assoc}
 use Rattle.std.specs.Prelude.{nat_le, nat_lt, ◌||◌}
@@ -21,10 +19,8 @@ use Rattle.jm_book.specs.Session.{sent_of, pending_of, tick_after, packet_tick}
 use Rattle.std.proofs.lemmas.List.{append-nil}
 use Rattle.jm_book.specs.Answers.{needs_cut, list_with, delta_with}
 use Rattle.jm_book.proofs.Tests.{or_false}
-use Rattle.jm_book.proofs.Listing.{as_sent_push, sent_from_push, last_tick_push, timed_of_push, place_through_push, have_fields_push}
-
-pub session_push : (steps : List Step) (step : Step) → session_of (steps ++ step ∷ []) ≡ after (session_of steps) step
-session_push steps step = fold-append after nothing steps (step ∷ [])
+pub use Rattle.jm_book.specs.StepLaws.{session_push, pending_push, sent_cut}
+use Rattle.jm_book.proofs.Listing.{last_tick_push, timed_of_push, place_through_push, have_fields_push}
 
 -- a mark moves
 pub kept_ack : (config : Config) (tape tape' : Taped) (joined joined' : List Participant) (progress : Progress) (ssrc seq : ℕ) (one : Participant)
@@ -64,11 +60,6 @@ kept_ack config tape tape' joined joined' progress ssrc seq one kept found is_mo
       few_packets = omega (arith, longer, kept.few_packets);
       bounds = kept.bounds;
     }
-
--- the pending commands after one more play
-pub pending_push : (s : Session) (player tick : ℕ) (command : Command) → pending_of (after s (Play player command tick)) ≡ pending_of s ++ record { packet = length s.packets; tick = tick_after s tick; command = command } ∷ []
-pending_push s player tick command =
-    as_sent_push (length s.packets) s.pending record { player = player; serial = s.plays; tick = tick_after s tick; command = command }
 
 -- a command became pending
 pub kept_play : (config : Config) (tape tape' : Taped) (joined : List Participant) (progress : Progress) (player tick : ℕ) (command : Command)
@@ -118,12 +109,6 @@ kept_play config tape tape' joined progress player tick command kept fits room s
       few_packets = omega (arith, longer, kept.few_packets);
       bounds = kept.bounds;
     }
-
--- the sent commands after a cut
-pub sent_cut : (s : Session) (tick : ℕ) → sent_of (after s (Cut tick)) ≡ sent_of s ++ pending_of s
-sent_cut s tick =
-    let same : 0 + length s.packets ≡ length s.packets = omega arith in
-    rw same at (sent_from_push 0 s.packets record { tick = packet_tick s.pending (tick_after s tick); entries = s.pending })
 
 -- what was pending became a packet
 pub kept_cut : (config : Config) (tape tape' : Taped) (joined : List Participant) (progress : Progress) (tick : ℕ)

@@ -1,10 +1,51 @@
 -- What the laws of this crate say of every list of steps.
-use Rattle.std.specs.Prelude.{List, ◌++◌}
+use Rattle.std.specs.Prelude.{ℕ, ◌≡◌, ◌≤◌, ◌==◌, List, [], ◌∷◌, ◌++◌, map, filter}
+use Rattle.std.specs.List.{AllByRecursion, range_with_len}
 use Rattle.jm_cmds.specs.History.{InOrder}
-use Rattle.jm_cmds.specs.Sent.{packet_of}
+use Rattle.jm_cmds.specs.Sent.{packet_of, tick_of}
+use Rattle.jm_book.specs.declared.steps.Config.{Config}
 use Rattle.jm_book.specs.declared.steps.Step.{Step}
-use Rattle.jm_book.specs.Session.{session_of, sent_of, pending_of}
+use Rattle.jm_book.specs.Session.{Entry, session_of, sent_of, pending_of, checkpoint_of}
+use Rattle.jm_book.specs.Legal.{IsTaken, IsLegal}
+use Rattle.jm_book.specs.Plays.{play_count, greatest_tick, plays_of, played_by, entries_of, sent_pair, entry_pair}
 
 -- Packet numbers never fall along the sent commands, nor along those and the pending ones.
 abbrev pub PacketsInOrder : Type 0
 PacketsInOrder = (steps : List Step) → InOrder packet_of (sent_of (session_of steps)) × InOrder packet_of (sent_of (session_of steps) ++ pending_of (session_of steps))
+
+-- Ticks never fall along the sent and pending commands, and none of them is past the session's tick.
+abbrev pub TicksInOrder : Type 0
+TicksInOrder = (steps : List Step) → InOrder tick_of (sent_of (session_of steps) ++ pending_of (session_of steps)) × AllByRecursion (λ one. tick_of one ≤ (session_of steps).tick) (sent_of (session_of steps) ++ pending_of (session_of steps))
+
+-- The entries of all packets in order, and then those pending, are the plays in order: each with its
+-- player and command, and the greatest tick among it and all plays and cuts before it.
+abbrev pub KeepsPlays : Type 0
+KeepsPlays = (steps : List Step) → entries_of (session_of steps) ≡ plays_of steps
+
+-- Their serials are 0, 1, 2 and so on, each once, up to the number of plays.
+abbrev pub NumbersPlays : Type 0
+NumbersPlays = (steps : List Step) → map (λ (one : Entry). one.serial) (entries_of (session_of steps)) ≡ range_with_len 0 (play_count steps)
+
+-- The commands of each player stand in the order of its plays.
+abbrev pub KeepsPlayersInOrder : Type 0
+KeepsPlayersInOrder = (player : ℕ) (steps : List Step) → map (λ (one : Entry). one.command) (filter (λ one. one.player == player) (entries_of (session_of steps))) ≡ played_by player steps
+
+-- A session counts the plays, and has the greatest tick of all plays and cuts.
+abbrev pub CountsPlays : Type 0
+CountsPlays = (steps : List Step) → ((session_of steps).plays ≡ play_count steps) × ((session_of steps).tick ≡ greatest_tick steps)
+
+-- The plain list of sent and pending commands has the ticks and commands of those entries, in order.
+abbrev pub SendsEntries : Type 0
+SendsEntries = (steps : List Step) → map sent_pair (sent_of (session_of steps) ++ pending_of (session_of steps)) ≡ map entry_pair (entries_of (session_of steps))
+
+-- No steps are legal, and with one more taken step legal steps are legal.
+abbrev pub TakesLegally : Type 0
+TakesLegally = (config : Config) → IsLegal config [] × ((steps : List Step) (step : Step) → IsLegal config steps → IsTaken config steps step → IsLegal config (steps ++ step ∷ []))
+
+-- The steps before the last of legal ones are legal, and the last is taken after them.
+abbrev pub TookLegally : Type 0
+TookLegally = (config : Config) (steps : List Step) (step : Step) → IsLegal config (steps ++ step ∷ []) → IsLegal config steps × IsTaken config steps step
+
+-- The checkpoint passes no joined participant's mark.
+abbrev pub PassesNoMark : Type 0
+PassesNoMark = (steps : List Step) → AllByRecursion (λ one. checkpoint_of (session_of steps) ≤ one.mark) (session_of steps).joined

@@ -3,8 +3,15 @@ pub mod Book
 pub mod Journal
 pub mod Kept
 pub mod Laws
+pub mod Legal
+pub mod LegalLaws
+pub mod MarkLaws
 pub mod OrderLaws
 pub mod Packet
 pub mod Pending
+pub mod PlayLaws
+pub mod Plays
 pub mod Session
+pub mod StepLaws
 pub mod Tape
+pub mod TickLaws

@@ -1,9 +1,56 @@
 //! What holds of every session, over the definitions that this crate's contracts cite. Each law is the
 //! contract of a function that does nothing.
 
-ghost use Rattle.jm_book.specs.Laws.{PacketsInOrder};
+ghost use Rattle.jm_book.specs.Laws.{PacketsInOrder, TicksInOrder, KeepsPlays, NumbersPlays, KeepsPlayersInOrder, CountsPlays, SendsEntries, TakesLegally, TookLegally, PassesNoMark};
 
 /// Packet numbers never fall along the sent commands, nor along those and the pending ones.
 pub fn packets_in_order()
     ensures { PacketsInOrder }
+{}
+
+/// Ticks never fall along the sent and pending commands, and none of them is past the session's tick.
+pub fn ticks_in_order()
+    ensures { TicksInOrder }
+{}
+
+/// Each accepted command stands in one packet or is pending: the entries of all packets in order, and
+/// then those pending, are the plays in order, each with its player and command, and with the greatest
+/// tick among it and all plays and cuts before it.
+pub fn keeps_plays()
+    ensures { KeepsPlays }
+{}
+
+/// The serials of all entries are 0, 1, 2 and so on, each once, up to the number of plays.
+pub fn numbers_plays()
+    ensures { NumbersPlays }
+{}
+
+/// The commands of each player stand in the order of its plays.
+pub fn keeps_players_in_order()
+    ensures { KeepsPlayersInOrder }
+{}
+
+/// A session counts the plays, and has the greatest tick of all plays and cuts.
+pub fn counts_plays()
+    ensures { CountsPlays }
+{}
+
+/// The plain list of sent and pending commands has the ticks and commands of those entries, in order.
+pub fn sends_entries()
+    ensures { SendsEntries }
+{}
+
+/// No steps are legal, and with one more step that is taken after them, legal steps are legal.
+pub fn takes_legally()
+    ensures { TakesLegally }
+{}
+
+/// The steps before the last of legal ones are legal, and the last is taken after them.
+pub fn took_legally()
+    ensures { TookLegally }
+{}
+
+/// The checkpoint passes no joined participant's mark.
+pub fn passes_no_mark()
+    ensures { PassesNoMark }
 {}
