@@ -6,7 +6,7 @@ ghost use Rattle.jm_section.specs.Section.{list_text};
 ghost use Rattle.jm_book.specs.Book.{IsReady, Takes};
 ghost use Rattle.jm_book.specs.Session.{session_of, pending_of, sent_of, checkpoint_of, packet_tick, tick_after};
 ghost use Rattle.jm_book.specs.Pending.{timed_of, timed_after, have_fields, first_tick};
-ghost use Rattle.jm_book.specs.Packet.{packet_of, header_of, journal_of, has_journal};
+ghost use Rattle.jm_book.specs.Packet.{packet_of, header_of, journal_of, has_journal, HasShortChannels};
 ghost use Rattle.jm_cmds.specs.Sent.{packet_of as sent_packet};
 ghost use Rattle.jm_cmds.specs.History.{InOrder};
 ghost use Rattle.jm_book.specs.Answers.{cut_answer, is_packet};
@@ -111,7 +111,9 @@ impl Book {
     /// Appends the next packet's journal, if it has one.
     fn write_next_journal(&self, tick: u64, out: &mut Octets)
         requires { 4371 ≤ out.old.spare }
-        ensures { Appends out.old out.new (journal_of (session_of self.now.steps) tick) }
+        ensures written { Appends out.old out.new (journal_of (session_of self.now.steps) tick) }
+        ensures bound { out.old.spare ≤ out.new.spare + 4371 }
+        ensures each { HasShortChannels (session_of self.now.steps) tick }
     {
         if self.has_journal() {
             write_journal(self.sent_commands(), self.next_span(tick), out);
@@ -121,7 +123,9 @@ impl Book {
     /// Appends the packet of what is pending.
     fn write_packet(&self, tick: u64, out: &mut Octets)
         requires { 21100 ≤ out.old.spare }
-        ensures { Appends out.old out.new (packet_of self.now.config (session_of self.now.steps) tick) }
+        ensures written { Appends out.old out.new (packet_of self.now.config (session_of self.now.steps) tick) }
+        ensures bound { out.old.spare ≤ out.new.spare + 8480 }
+        ensures each { HasShortChannels (session_of self.now.steps) tick }
     {
         let pending = self.pending_commands();
         write_header(&self.next_header(tick), out);
@@ -131,7 +135,7 @@ impl Book {
     }
 
     /// All pending commands become the next packet, whose octets are put into `out`, at most
-    /// 21,067 of them. A packet without commands has this tick, in units of 100 microseconds, or the
+    /// 8,480 of them. A packet without commands has this tick, in units of 100 microseconds, or the
     /// latest one that was taken, where that is later. A refusal leaves `out` as it was.
     pub fn cut(&mut self, tick: u64, out: &mut Octets) -> Cutted
         requires ready { IsReady self.old }
@@ -141,6 +145,8 @@ impl Book {
         ensures taken { Takes self.old self.new (is_packet result) (Step.Cut tick) }
         ensures packet { IsTrue (is_packet result) → Appends out.old out.new (packet_of self.old.config (session_of self.old.steps) tick) }
         ensures refused { is_packet result ≡ false → out.new ≡ out.old }
+        ensures bound { length out.new.octets ≤ 8480 }
+        ensures channels { IsTrue (is_packet result) → HasShortChannels (session_of self.old.steps) tick }
     {
         if self.is_full() {
             return Cutted::RecordFull {

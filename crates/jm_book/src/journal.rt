@@ -1,6 +1,6 @@
 //! The recovery journal of a packet (RFC 6295, section 5): its header and the channel journals.
 
-ghost use Rattle.std.specs.Prelude.{◌≡◌, ◌+◌, ◌-◌, ◌*◌, ◌<◌, ◌≤◌, ◌++◌, length, map, sum, if◌then◌else◌, ◌==◌};
+ghost use Rattle.std.specs.Prelude.{ℕ, ◌≡◌, ◌+◌, ◌-◌, ◌*◌, ◌<◌, ◌≤◌, ◌++◌, length, map, sum, if◌then◌else◌, ◌==◌};
 ghost use Rattle.std.specs.List.{list_any, flat_map, range_with_len};
 ghost use Rattle.jm_wire.specs.Octets.{Appends};
 ghost use Rattle.jm_cmds.specs.History.{InOrder};
@@ -112,7 +112,9 @@ fn write_head(fresh: bool, count: u8, from: u64, out: &mut Octets)
 fn write_channels(list: &[Sent], span: Span, out: &mut Octets)
     requires order { InOrder packet_of list.now }
     requires room { 4368 ≤ out.old.spare }
-    ensures { Appends out.old out.new (flat_map (channel_journal span.from span.packet span.tick list.now) channels) }
+    ensures written { Appends out.old out.new (flat_map (channel_journal span.from span.packet span.tick list.now) channels) }
+    ensures bound { out.old.spare ≤ out.new.spare + 4368 }
+    ensures each { (channel : ℕ) → channel < 16 → length (channel_journal span.from span.packet span.tick list.now channel) ≤ 273 }
 {
     for number in 0..16u8 {
         write_channel(list, Channel::low(number), span, out);
@@ -124,7 +126,9 @@ fn write_channels(list: &[Sent], span: Span, out: &mut Octets)
 pub(crate) fn write_journal(list: &[Sent], span: Span, out: &mut Octets)
     requires order { InOrder packet_of list.now }
     requires room { 4371 ≤ out.old.spare }
-    ensures { Appends out.old out.new (journal span.from span.packet span.tick list.now) }
+    ensures written { Appends out.old out.new (journal span.from span.packet span.tick list.now) }
+    ensures bound { out.old.spare ≤ out.new.spare + 4371 }
+    ensures each { (channel : ℕ) → channel < 16 → length (channel_journal span.from span.packet span.tick list.now channel) ≤ 273 }
 {
     write_head(
         is_fresh(list, span),

@@ -17,3 +17,6 @@ pub use answers::{Acked, Cutted, Entered, Joined, PlayFault, Played};
 pub use book::Book;
 pub use participants::Participant;
 pub use steps::{Config, Step};
+
+#[cfg(test)]
+mod tests;

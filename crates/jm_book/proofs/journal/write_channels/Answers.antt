@@ -1,4 +1,4 @@
-use Rattle.std.proofs.Common.{◌≡◌, ◌∙◌, sym, ◌+◌, ◌++◌, length, length-append, append_assoc, arith}
+use Rattle.std.proofs.Common.{◌≡◌, ◌∙◌, sym, ◌+◌, ◌++◌, length, length-append, append_assoc, below_more, arith}
 use Rattle.std.proofs.lemmas.List.{append-nil}
 use Rattle.std.specs.List.{flat_map}
 use Rattle.jm_book.specs.Journal.{channel_journal, channels, channels_from_more, channels_from_none}
@@ -17,10 +17,11 @@ loop-number-preserved c =
       text = rw (octets, append_assoc) (rw (channels_from_more n (omega arith)) at c.loop-number.invariant.text);
       whole = rw octets (simp length-append (omega (arith, spare, c.loop-number.invariant.whole)));
       room = omega (arith, spare, bound, c.loop-number.invariant.room);
+      each = below_more _ _ c.loop-number.invariant.each bound;
     }
 
-pub returns : goal.returns
-returns c =
+pub returns-clause-written : goal.returns-clause-written
+returns-clause-written c =
     let span = c.args.span in
     let all = flat_map (channel_journal span.from span.packet span.tick c.args.list.now) channels in
     let octets : c.loop-number.out.octets ≡ c.args.out.now.octets ++ all =

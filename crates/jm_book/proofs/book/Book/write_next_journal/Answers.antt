@@ -1,4 +1,4 @@
-use Rattle.std.proofs.Common.{◌≡◌, ◌∙◌, sym}
+use Rattle.std.proofs.Common.{◌≡◌, ◌∙◌, sym, true, false, arith}
 use Rattle.jm_wire.specs.Octets.{unchanged}
 use Rattle.jm_book.specs.Session.{session_of}
 use Rattle.jm_book.specs.Packet.{journal_of_some, journal_of_none}
@@ -9,10 +9,19 @@ returns-then-has_journal c =
     let s = session_of c.args.self.now.steps in
     let there = sym c.has_journal.ensures ∙ c.if-has_journal.true in
     let span = c.next_span.ensures in
-    rw (journal_of_some s c.args.tick there) (rw (span.from, span.packet, span.tick, c.sent_commands.ensures.commands) at c.write_journal.ensures)
+    let sent = c.sent_commands.ensures.commands in
+    record {
+      written = rw (journal_of_some s c.args.tick there) (rw (span.from, span.packet, span.tick, sent) at c.write_journal.ensures.written);
+      bound = c.write_journal.ensures.bound;
+      each = λ _. rw (span.from, span.packet, span.tick, sent) at c.write_journal.ensures.each;
+    }
 
 pub returns-else-has_journal : goal.returns-else-has_journal
 returns-else-has_journal c =
     let s = session_of c.args.self.now.steps in
     let none = sym c.has_journal.ensures ∙ c.if-has_journal.false in
-    rw (journal_of_none s c.args.tick none) (unchanged c.args.out.now)
+    record {
+      written = rw (journal_of_none s c.args.tick none) (unchanged c.args.out.now);
+      bound = omega arith;
+      each = λ there. let no : false ≡ true = sym none ∙ there in absurd cc;
+    }

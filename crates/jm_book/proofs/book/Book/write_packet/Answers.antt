@@ -16,11 +16,15 @@ pub write_next_journal-requires : goal.write_next_journal-requires
 write_next_journal-requires c =
     omega (arith, length_section_header c.list_len.result c.has_journal.result, c.write_header.ensures.spare, c.write_section_header.ensures.spare, c.write_list.ensures.spare, c.pending_commands-pending.ensures.short, c.requires)
 
-pub returns : goal.returns
+pub returns-clause-written : goal.returns-clause-written
 unfolding packet_of
-returns c =
+returns-clause-written c =
     let pending = c.pending_commands-pending.ensures.commands in
     let head = rw c.next_header.ensures at c.write_header.ensures in
     let section = rw (c.list_len.ensures, c.has_journal.ensures) at c.write_section_header.ensures in
     let list = rw pending at c.write_list.ensures in
-    joined (joined head (joined section list)) c.write_next_journal.ensures
+    joined (joined head (joined section list)) c.write_next_journal.ensures.written
+
+pub returns-clause-bound : goal.returns-clause-bound
+returns-clause-bound c =
+    omega (arith, length_section_header c.list_len.result c.has_journal.result, c.write_header.ensures.spare, c.write_section_header.ensures.spare, c.write_list.ensures.spare, c.pending_commands-pending.ensures.short, c.write_next_journal.ensures.bound)
