@@ -12,3 +12,6 @@ pub mod AnswerText
 pub mod Did
 pub mod ReplayState
 pub mod Number
+pub mod ReadWords
+pub mod ReadText
+pub mod ReadLine

@@ -1,7 +1,6 @@
 -- The grammar of a script's lines.
-use Rattle.std.specs.Prelude.{ℕ, ◌^◌, ◌≤◌, Bool, true, false, ◌==◌, if◌then◌else◌, List, [], ◌∷◌, length, Option, Some, None, Result, Ok, Err}
+use Rattle.std.specs.Prelude.{ℕ, ◌^◌, ◌≤◌, Bool, ◌==◌, if◌then◌else◌, List, [], ◌∷◌, length, Option, Some, None, Result, Ok, Err}
 use Rattle.jm_cmds.specs.declared.commands.Command.{Command}
-use Rattle.jm_cmds.specs.declared.commands.Command.TheVariants.{NoteOff, NoteOn}
 use Rattle.jm_cmds.specs.declared.reading.CmdFault.{CmdFault}
 use Rattle.jm_cmds.specs.Reading.{command_read}
 use Rattle.midi_host.specs.declared.words.Keyword.{Keyword}
@@ -36,17 +35,10 @@ abbrev pub enter_line : Option (List ℕ) → Result Line LineFault
 enter_line None = Ok line.Enter
 enter_line (Some words) = Err Form
 
--- the notes are the commands that a script may play
-abbrev pub is_note : Command → Bool
-is_note (NoteOff channel note velocity) = true
-is_note (NoteOn channel note velocity) = true
-is_note _ = false
-
 -- octets that are exactly one command
 abbrev pub whole_command : ℕ → Result (Command × ℕ) CmdFault → Result Command LineFault
 whole_command len (Err fault) = Err NotACommand
-whole_command len (Ok (command, used)) =
-    if used == len then (if is_note command then Ok command else Err NotACommand) else Err NotACommand
+whole_command len (Ok (command, used)) = if used == len then Ok command else Err NotACommand
 
 -- `play PLAYER TICK HEX`
 unfoldable pub play_line : Option (List ℕ) → Result Line LineFault

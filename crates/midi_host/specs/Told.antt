@@ -1,7 +1,7 @@
 -- What a script is answered: the lines of answers, up to the first line outside the grammar.
 use Rattle.std.specs.Prelude.{ℕ, ◌+◌, Bool, true, false, List, [], ◌∷◌, ◌++◌, length, codes, decimal, if◌then◌else◌, nat_le, nat_lt}
 use Rattle.midi_host.specs.declared.verb.Cause.{Cause}
-use Rattle.midi_host.specs.declared.verb.Cause.TheVariants.{Lines, TooLong}
+use Rattle.midi_host.specs.declared.verb.Cause.TheVariants.{Lines, TooLong, Word, Form, Command}
 use Rattle.midi_host.specs.declared.verb.TheConstants.{MOST_LINES}
 
 -- the text, and whether each line is in the grammar
@@ -17,9 +17,13 @@ after text told = record { text = text ++ told.text; good = told.good }
 abbrev pub told_none : Told
 told_none = record { text = []; good = true }
 
--- a cause as it is printed: each is told as a line that isn't in its form
+-- a cause as it is printed
 abbrev pub cause_word : Cause → List ℕ
-cause_word cause = codes "form"
+cause_word Lines = codes "lines"
+cause_word TooLong = codes "too-long"
+cause_word Word = codes "word"
+cause_word Form = codes "form"
+cause_word Command = codes "command"
 
 -- the last line of the text where the line of this number is outside the grammar
 unfoldable pub bad_line : ℕ → Cause → List ℕ

@@ -4,6 +4,9 @@
 mod answering;
 mod page;
 mod print;
+mod read;
+mod read_print;
+mod read_words;
 mod replay;
 mod room;
 mod run;
@@ -24,7 +27,7 @@ use std::process::ExitCode;
 use std::rt::Env;
 use word::Word;
 
-const USAGE: &str = "usage: midi_host replay";
+const USAGE: &str = "usage: midi_host replay|read";
 
 // The words after the program's name.
 fn program_words(rt: &(impl Env + AllocGlobal)) -> io::Result<Vec<Word>> {

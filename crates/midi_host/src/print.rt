@@ -10,7 +10,7 @@ use jm_book::{Acked, Cutted, Entered, Joined, PlayFault};
 use std::alloc::{AllocError, Global};
 
 /// Adds a number in decimal digits.
-fn add_number(out: &mut Vec<u8>, n: u64) -> Result<(), AllocError>
+pub fn add_number(out: &mut Vec<u8>, n: u64) -> Result<(), AllocError>
     ensures { OnOk result (out.new.items ≡ out.old.items ++ decimal n) }
 {
     let mut buffer = Buffer::new();
@@ -19,7 +19,7 @@ fn add_number(out: &mut Vec<u8>, n: u64) -> Result<(), AllocError>
 }
 
 /// Adds octets in hexadecimal digits.
-fn add_hex(out: &mut Vec<u8>, octets: &[u8], alloc: Global) -> Result<(), AllocError>
+pub fn add_hex(out: &mut Vec<u8>, octets: &[u8], alloc: Global) -> Result<(), AllocError>
     ensures { OnOk result (out.new.items ≡ out.old.items ++ encode_lower octets.now) }
 {
     let text = hex::encode(alloc, octets)?;
@@ -28,7 +28,7 @@ fn add_hex(out: &mut Vec<u8>, octets: &[u8], alloc: Global) -> Result<(), AllocE
 }
 
 /// Adds a number between two texts.
-fn add_numbered(out: &mut Vec<u8>, before: &[u8], n: u64, after: &[u8]) -> Result<(), AllocError>
+pub fn add_numbered(out: &mut Vec<u8>, before: &[u8], n: u64, after: &[u8]) -> Result<(), AllocError>
     ensures { OnOk result (out.new.items ≡ out.old.items ++ (before.now ++ decimal n ++ after.now)) }
 {
     out.extend_from_slice(before)?;

@@ -1,33 +1,50 @@
 // The top call of the verbs that read lines.
-ghost use Rattle.std.specs.Prelude.{◌≡◌, ◌≢◌, ◌≤◌, ◌↔◌, [], ◌∷◌, IsTrue, IfSome, codes, length};
+ghost use Rattle.std.specs.Prelude.{◌≡◌, ◌≢◌, ◌≤◌, ◌↔◌, IfSome, None};
 ghost use Rattle.jm_edge.specs.Faults.{Rose};
 ghost use Rattle.midi_host.specs.Ends.{Ends, OnReadFault, OnWriteFault, IsFaultless, Completes, HasFewLines};
-ghost use Rattle.midi_host.specs.Run.{replay_words, replay_answer};
+ghost use Rattle.midi_host.specs.Run.{verb_named, verb_of, answer_to};
 
 use super::answering::answer_lines;
+use super::read::Read;
 use super::replay::Replay;
 use super::status::Status;
 use super::word::Word;
 use jm_edge::{Sink, Source};
 use std::alloc::Global;
 
-fn is_same(word: &[u8], name: &[u8]) -> bool
-    ensures { IsTrue result ↔ (word.now ≡ name.now) }
-{
-    word == name
+/// A verb of the program.
+#[derive(Clone, Copy, Debug, PartialEq, Eq)]
+pub enum VerbWord {
+    /// `replay`: the lines of a script, over one session.
+    Replay,
+    /// `read`: octets, each line for itself.
+    Read,
 }
 
-// Whether the words are those of `replay`.
-fn is_replay(words: &[Word]) -> bool
-    ensures { IsTrue result ↔ (words.now ≡ replay_words) }
+// The verb that a word names.
+fn verb_named(word: &[u8]) -> Option<VerbWord>
+    ensures { result ≡ verb_named word.now }
+{
+    if word == b"replay".as_slice() {
+        return Some(VerbWord::Replay);
+    }
+    if word == b"read".as_slice() {
+        return Some(VerbWord::Read);
+    }
+    None
+}
+
+// The verb that the words are.
+fn verb_of(words: &[Word]) -> Option<VerbWord>
+    ensures { result ≡ verb_of words.now }
 {
     match words {
-        [word] => is_same(word.as_bytes(), b"replay"),
-        _ => false,
+        [word] => verb_named(word.as_bytes()),
+        _ => None,
     }
 }
 
-/// Answers a script to a sink.
+/// Answers an input to a sink, by the verb that the words are.
 ///
 /// `Usage` comes exactly where the words aren't those of a verb, and then nothing is read or written. `Done` and
 /// `BadScript` come where the source and the sink met no fault, by whether each line is in the grammar.
@@ -39,8 +56,8 @@ pub fn run<S: Source, K: Sink>(
     sink: &mut K,
     alloc: Global,
 ) -> Status
-    ensures usage { (result ≡ Status.Usage) ↔ (words.now ≢ replay_words) }
-    ensures ends { Ends result replay_answer (S.left source.old) (S.left source.new) (K.written sink.old)
+    ensures usage { (result ≡ Status.Usage) ↔ (verb_of words.now ≡ None) }
+    ensures ends { Ends result (answer_to words.now) (S.left source.old) (S.left source.new) (K.written sink.old)
         (K.written sink.new) }
     ensures reads_counted { S.faults source.old ≤ S.faults source.new }
     ensures writes_counted { K.faults sink.old ≤ K.faults sink.new }
@@ -48,13 +65,16 @@ pub fn run<S: Source, K: Sink>(
     ensures write_rose { OnWriteFault result (Rose (K.faults sink.old) (K.faults sink.new)) }
 
     // A run that meets no fault ends by the grammar, unless there is no memory.
-    ensures complete { words.now ≡ replay_words → IsFaultless (S.faults source.old) (S.faults source.new)
+    ensures complete { verb_of words.now ≢ None → IsFaultless (S.faults source.old) (S.faults source.new)
         → IsFaultless (K.faults sink.old) (K.faults sink.new)
-        → IfSome (S.left source.old) (λ input. Completes result (replay_answer input)) }
+        → IfSome (S.left source.old) (λ input. Completes result (answer_to words.now input)) }
     ensures few_lines { IfSome (S.left source.old) (HasFewLines result) }
 {
-    if !is_replay(words) {
-        return Status::Usage;
+    match verb_of(words) {
+        None => Status::Usage,
+        Some(VerbWord::Replay) => {
+            answer_lines(&mut Replay { session: None }, alloc, source, sink)
+        }
+        Some(VerbWord::Read) => answer_lines(&mut Read {}, alloc, source, sink),
     }
-    answer_lines(&mut Replay { session: None }, alloc, source, sink)
 }

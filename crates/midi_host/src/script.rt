@@ -3,7 +3,7 @@
 ghost use Rattle.std.specs.Prelude.{◌≡◌, ◌+◌, ◌^◌, ◌≤◌, length, Option, List, option_map, IfOk};
 ghost use Rattle.jm_cmds.specs.Gives.{Gives};
 ghost use Rattle.jm_cmds.specs.Reading.{command_read};
-ghost use Rattle.midi_host.specs.Line.{line_of, line_by, session_line, enter_line, play_line, cut_line, ack_line, join_line, whole_command, is_note, IsInRange};
+ghost use Rattle.midi_host.specs.Line.{line_of, line_by, session_line, enter_line, play_line, cut_line, ack_line, join_line, whole_command, IsInRange};
 
 use super::words::{Keyword, hex_octets, number, read_keyword, split_word, ssrc};
 use jm_cmds::{Command, ReadError, read_command};
@@ -153,16 +153,6 @@ fn read_join(rest: Option<&[u8]>) -> Result<Line, LineFault>
     Ok(Line::Join { ssrc })
 }
 
-fn is_note(command: &Command) -> bool
-    ensures { result ≡ is_note command.now }
-{
-    match command {
-        Command::NoteOff { .. } => true,
-        Command::NoteOn { .. } => true,
-        _ => false,
-    }
-}
-
 /// The one command that some octets are.
 fn one_command(octets: &[u8], alloc: Global) -> Result<Command, ReadError<LineFault>>
     ensures { Gives result (whole_command (length octets.now) (command_read octets.now)) }
@@ -170,9 +160,6 @@ fn one_command(octets: &[u8], alloc: Global) -> Result<Command, ReadError<LineFa
     match read_command(octets, alloc) {
         Ok((command, used)) => {
             if used != octets.len() {
-                return Err(ReadError::Fault(LineFault::Command));
-            }
-            if !is_note(&command) {
                 return Err(ReadError::Fault(LineFault::Command));
             }
             Ok(command)

@@ -28,11 +28,17 @@ pub enum Cause {
 }
 
 impl Cause {
-    /// The cause as it is printed: each is told as a line that isn't in its form.
+    /// The cause as it is printed.
     pub fn word(self) -> &'static [u8]
         ensures { result.now ≡ cause_word self }
     {
-        b"form"
+        match self {
+            Cause::Lines => b"lines",
+            Cause::TooLong => b"too-long",
+            Cause::Word => b"word",
+            Cause::Form => b"form",
+            Cause::Command => b"command",
+        }
     }
 }
 
