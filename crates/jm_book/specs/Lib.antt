@@ -1,8 +1,10 @@
 pub mod Answers
 pub mod Book
+pub mod JoinedLaws
 pub mod Kept
 pub mod Laws
 pub mod Legal
+pub mod LegalJoined
 pub mod LegalLaws
 pub mod MarkLaws
 pub mod OrderLaws
@@ -12,5 +14,6 @@ pub mod PlayLaws
 pub mod Plays
 pub mod Session
 pub mod StepLaws
+pub mod TakenLaws
 pub mod Tape
 pub mod TickLaws
