@@ -5,15 +5,40 @@ use jm_wire::Octets;
 use std::alloc::Global;
 use std::test::Fail;
 
-const CONTROL: Addr = Addr {
-    host: 0x7F00_0001,
-    port: 5004,
-};
+const CONTROL: (PortKind, Addr) = (
+    PortKind::Ctl,
+    Addr {
+        host: 0x7F00_0001,
+        port: 5004,
+    },
+);
 
-const DATA: Addr = Addr {
-    host: 0x7F00_0001,
-    port: 5005,
-};
+const DATA: (PortKind, Addr) = (
+    PortKind::Rtp,
+    Addr {
+        host: 0x7F00_0001,
+        port: 5005,
+    },
+);
+
+const INVITATION: &[u8] = b"\xFF\xFFIN\x00\x00\x00\x02\x01\x02\x03\x04\x00\x00\x00\x22a\x00";
+
+const ACCEPTED: &[u8] = b"\xFF\xFFOK\x00\x00\x00\x02\x01\x02\x03\x04\x11\x22\x33\x44midi_host\x00";
+
+const FIRST: &[u8] =
+    b"\xFF\xFFCK\x00\x00\x00\x22\x00\x00\x00\x00\x00\x00\x00\x00\x00\x00\x00\x0A\x00\x00\x00\x00\x00\x00\x00\x00\x00\x00\x00\x00\x00\x00\x00\x00";
+
+const SECOND: &[u8] =
+    b"\xFF\xFFCK\x11\x22\x33\x44\x01\x00\x00\x00\x00\x00\x00\x00\x00\x00\x00\x0A\x00\x00\x00\x00\x00\x00\x00\x32\x00\x00\x00\x00\x00\x00\x00\x00";
+
+const THIRD: &[u8] =
+    b"\xFF\xFFCK\x00\x00\x00\x22\x02\x00\x00\x00\x00\x00\x00\x00\x00\x00\x00\x0A\x00\x00\x00\x00\x00\x00\x00\x32\x00\x00\x00\x00\x00\x00\x00\x0E";
+
+const FEEDBACK: &[u8] = b"\xFF\xFFRS\x00\x00\x00\x22\x00\x01\x00\x00";
+
+const BYE: &[u8] = b"\xFF\xFFBY\x00\x00\x00\x02\x01\x02\x03\x04\x00\x00\x00\x22";
+
+const NONE: &[u8] = b"";
 
 fn host() -> Result<Session, Fail> {
     let name = Name::new(b"midi_host").ok_or("a name")?;
@@ -24,13 +49,12 @@ fn host() -> Result<Session, Fail> {
 fn heard(
     alloc: Global,
     host: &mut Session,
-    port: PortKind,
-    from: Addr,
+    to: (PortKind, Addr),
     octets: &[u8],
     now: u64,
 ) -> Result<(Octets, Act), Fail> {
     let message = read_message(octets)?;
-    let Answer { reply, act } = host.on_message(true, port, from, &message, now);
+    let Answer { reply, act } = host.on_message(true, to.0, to.1, &message, now);
     match reply {
         None => Ok((Octets::with_room(0, alloc)?, act)),
         Some(reply) => {
@@ -43,63 +67,19 @@ fn heard(
 
 #[test]
 fn invitation_clock_bye(rt: HostRuntime) -> Result<(), Fail> {
-    const INVITATION: &[u8] = b"\xFF\xFFIN\x00\x00\x00\x02\x01\x02\x03\x04\x00\x00\x00\x22a\x00";
-    const ACCEPTED: &[u8] =
-        b"\xFF\xFFOK\x00\x00\x00\x02\x01\x02\x03\x04\x11\x22\x33\x44midi_host\x00";
-    const FIRST: &[u8] =
-        b"\xFF\xFFCK\x00\x00\x00\x22\x00\x00\x00\x00\x00\x00\x00\x00\x00\x00\x00\x0A\x00\x00\x00\x00\x00\x00\x00\x00\x00\x00\x00\x00\x00\x00\x00\x00";
-    const SECOND: &[u8] =
-        b"\xFF\xFFCK\x11\x22\x33\x44\x01\x00\x00\x00\x00\x00\x00\x00\x00\x00\x00\x0A\x00\x00\x00\x00\x00\x00\x00\x32\x00\x00\x00\x00\x00\x00\x00\x00";
-    const THIRD: &[u8] =
-        b"\xFF\xFFCK\x00\x00\x00\x22\x02\x00\x00\x00\x00\x00\x00\x00\x00\x00\x00\x0A\x00\x00\x00\x00\x00\x00\x00\x32\x00\x00\x00\x00\x00\x00\x00\x0E";
-    const FEEDBACK: &[u8] = b"\xFF\xFFRS\x00\x00\x00\x22\x00\x01\x00\x00";
-    const BYE: &[u8] = b"\xFF\xFFBY\x00\x00\x00\x02\x01\x02\x03\x04\x00\x00\x00\x22";
     let mut host = host()?;
-    for (port, from, now, octets, reply, act) in [
-        (
-            PortKind::Ctl,
-            CONTROL,
-            0u64,
-            INVITATION,
-            ACCEPTED,
-            Act::Plain,
-        ),
-        (
-            PortKind::Rtp,
-            DATA,
-            0,
-            INVITATION,
-            ACCEPTED,
-            Act::Join(0x22),
-        ),
-        (PortKind::Rtp, DATA, 50, FIRST, SECOND, Act::Plain),
-        (
-            PortKind::Rtp,
-            DATA,
-            50,
-            THIRD,
-            b"",
-            Act::Clocked { offset: -38 },
-        ),
-        (
-            PortKind::Ctl,
-            CONTROL,
-            60,
-            FEEDBACK,
-            b"",
-            Act::Ack { ssrc: 0x22, seq: 1 },
-        ),
-        (PortKind::Ctl, CONTROL, 70, BYE, b"", Act::Leave(0x22)),
-        (
-            PortKind::Ctl,
-            CONTROL,
-            70,
-            BYE,
-            b"",
-            Act::Ignored(Why::Unknown),
-        ),
+    let acked = Act::Ack { ssrc: 0x22, seq: 1 };
+    let behind = Act::Clocked { offset: -38 };
+    for (to, now, octets, reply, act) in [
+        (CONTROL, 0u64, INVITATION, ACCEPTED, Act::Plain),
+        (DATA, 0, INVITATION, ACCEPTED, Act::Join(0x22)),
+        (DATA, 50, FIRST, SECOND, Act::Plain),
+        (DATA, 50, THIRD, NONE, behind),
+        (CONTROL, 60, FEEDBACK, NONE, acked),
+        (CONTROL, 70, BYE, NONE, Act::Leave(0x22)),
+        (CONTROL, 70, BYE, NONE, Act::Ignored(Why::Unknown)),
     ] {
-        let (told, did) = heard(rt.alloc(), &mut host, port, from, octets, now)?;
+        let (told, did) = heard(rt.alloc(), &mut host, to, octets, now)?;
         assert_eq!(rt; told.as_slice(), reply);
         assert_eq!(rt; did, act);
     }
@@ -115,7 +95,7 @@ fn invitation(token: u32, ssrc: u32) -> Message {
 
 /// Whether the reply is OK, and what the session is to do.
 fn invited(host: &mut Session, port: PortKind, token: u32, ssrc: u32) -> (bool, Act) {
-    let Answer { reply, act } = host.on_message(true, port, CONTROL, &invitation(token, ssrc), 0);
+    let Answer { reply, act } = host.on_message(true, port, CONTROL.1, &invitation(token, ssrc), 0);
     (matches!(&reply, Some(Message::Accept { .. })), act)
 }
 

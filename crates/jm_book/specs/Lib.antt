@@ -1,6 +1,7 @@
 pub mod Answers
 pub mod Book
 pub mod JoinedLaws
+pub mod Journal
 pub mod Kept
 pub mod Laws
 pub mod Legal

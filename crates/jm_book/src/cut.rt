@@ -4,13 +4,16 @@ ghost use Rattle.std.specs.Prelude.{◌≡◌, ◌+◌, ◌≤◌, true, false, 
 ghost use Rattle.jm_wire.specs.Octets.{Appends};
 ghost use Rattle.jm_section.specs.Section.{list_text};
 ghost use Rattle.jm_book.specs.Book.{IsReady, Takes};
-ghost use Rattle.jm_book.specs.Session.{session_of, pending_of};
+ghost use Rattle.jm_book.specs.Session.{session_of, pending_of, sent_of, checkpoint_of, packet_tick, tick_after};
 ghost use Rattle.jm_book.specs.Pending.{timed_of, timed_after, have_fields, first_tick};
-ghost use Rattle.jm_book.specs.Packet.{packet_of, header_of};
+ghost use Rattle.jm_book.specs.Packet.{packet_of, header_of, journal_of, has_journal};
+ghost use Rattle.jm_cmds.specs.Sent.{packet_of as sent_packet};
+ghost use Rattle.jm_cmds.specs.History.{InOrder};
 ghost use Rattle.jm_book.specs.Answers.{cut_answer, is_packet};
 
 use crate::answers::Cutted;
 use crate::book::Book;
+use crate::journal::{Span, write_journal};
 use crate::progress::Progress;
 use crate::steps::Step;
 use crate::tape::Bare;
@@ -77,6 +80,44 @@ impl Book {
         }
     }
 
+    /// The commands of the packets that were sent.
+    fn sent_commands(&self) -> &[Sent]
+        ensures commands { result.now ≡ sent_of (session_of self.now.steps) }
+        ensures order { InOrder sent_packet result.now }
+    {
+        &self.tape.commands()[..self.progress.first_pending]
+    }
+
+    /// Whether the next packet has a journal: each but the first has.
+    fn has_journal(&self) -> bool
+        ensures { result ≡ has_journal (session_of self.now.steps) }
+    {
+        self.progress.packets > 0
+    }
+
+    /// What the next packet's journal covers.
+    fn next_span(&self, tick: u64) -> Span
+        ensures from { result.from ≡ checkpoint_of (session_of self.now.steps) }
+        ensures packet { result.packet ≡ length (session_of self.now.steps).packets }
+        ensures tick { result.tick ≡ packet_tick (session_of self.now.steps).pending (tick_after (session_of self.now.steps) tick) }
+    {
+        Span {
+            from: self.checkpoint(),
+            packet: self.progress.packets,
+            tick: first_tick(self.pending_commands(), self.tick_after(tick)),
+        }
+    }
+
+    /// Appends the next packet's journal, if it has one.
+    fn write_next_journal(&self, tick: u64, out: &mut Octets)
+        requires { 4371 ≤ out.old.spare }
+        ensures { Appends out.old out.new (journal_of (session_of self.now.steps) tick) }
+    {
+        if self.has_journal() {
+            write_journal(self.sent_commands(), self.next_span(tick), out);
+        }
+    }
+
     /// Appends the packet of what is pending.
     fn write_packet(&self, tick: u64, out: &mut Octets)
         requires { 21100 ≤ out.old.spare }
@@ -84,8 +125,9 @@ impl Book {
     {
         let pending = self.pending_commands();
         write_header(&self.next_header(tick), out);
-        write_section_header(self.list_len(), false, out);
+        write_section_header(self.list_len(), self.has_journal(), out);
         write_list(pending, out);
+        self.write_next_journal(tick, out);
     }
 
     /// All pending commands become the next packet, whose octets are put into `out`, at most

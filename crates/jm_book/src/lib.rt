@@ -4,6 +4,7 @@
 mod answers;
 mod book;
 mod cut;
+mod journal;
 pub mod laws;
 mod marks;
 mod participants;

@@ -35,7 +35,7 @@ impl Model for MemSource {
 
 impl MemSource {
     /// A source over a copy of `octets`, whose calls with the numbers in `fails` fail, counted from 0.
-    pub fn new(octets: &[u8], fails: &[u64], alloc: Global) -> Result<MemSource, AllocError>
+    pub fn new(alloc: Global, octets: &[u8], fails: &[u64]) -> Result<MemSource, AllocError>
         ensures { IfOk result
             (λ s. s ≡ record { left = octets.now; fails = fails.now; call = 0; faults = 0 }) }
     {
@@ -127,7 +127,7 @@ impl Model for MemSink {
 
 impl MemSink {
     /// A sink with room for `room` octets, whose calls with the numbers in `fails` fail, counted from 0.
-    pub fn new(room: usize, fails: &[u64], alloc: Global) -> Result<MemSink, AllocError>
+    pub fn new(alloc: Global, room: usize, fails: &[u64]) -> Result<MemSink, AllocError>
         ensures { IfOk result
             (λ s. s ≡ record { written = []; room = room; fails = fails.now; call = 0; faults = 0 }) }
     {

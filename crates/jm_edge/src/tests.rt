@@ -13,7 +13,7 @@ fn write_to<K: Sink>(sink: &mut K, text: &[u8; 3]) -> Put {
 
 #[test]
 fn memory_source_gives_its_octets(rt: HostRuntime) -> Result<(), Fail> {
-    let mut source = MemSource::new(b"hello", &[1], rt.alloc())?;
+    let mut source = MemSource::new(rt.alloc(), b"hello", &[1])?;
     let mut buf = [0; 3];
     assert_eq!(rt; read_from(&mut source, &mut buf), Got::Octets(3));
     assert_eq!(rt; buf, *b"hel");
@@ -26,7 +26,7 @@ fn memory_source_gives_its_octets(rt: HostRuntime) -> Result<(), Fail> {
 
 #[test]
 fn memory_sink_keeps_what_fits(rt: HostRuntime) -> Result<(), Fail> {
-    let mut sink = MemSink::new(5, &[0], rt.alloc())?;
+    let mut sink = MemSink::new(rt.alloc(), 5, &[0])?;
     assert_eq!(rt; write_to(&mut sink, b"abc"), Put::Failed);
     assert_eq!(rt; write_to(&mut sink, b"abc"), Put::Took(3));
     assert_eq!(rt; write_to(&mut sink, b"def"), Put::Took(2));

@@ -139,12 +139,12 @@ running_found place status octets what used (Ok x) lt e h =
 -- ## System Exclusive
 
 -- the data octets behind the first octet, and the octet that ends them
-record IsEnded (first : ℕ) (rest : List ℕ) : Type 0 where
-  data_octets : IsData (take (data_len rest) rest)
-  count : length (take (data_len rest) rest) ≡ data_len rest
-  split : first ∷ rest ≡ (first ∷ (take (data_len rest) rest ++ get_or rest (data_len rest) 0 ∷ [])) ++ drop (suc (data_len rest)) rest
+pub record IsEnded (first : ℕ) (rest : List ℕ) : Type 0 where
+  pub data_octets : IsData (take (data_len rest) rest)
+  pub count : length (take (data_len rest) rest) ≡ data_len rest
+  pub split : first ∷ rest ≡ (first ∷ (take (data_len rest) rest ++ get_or rest (data_len rest) 0 ∷ [])) ++ drop (suc (data_len rest)) rest
 
-is_ended : (first : ℕ) (rest : List ℕ) → eqb (data_len rest) (length rest) ≡ false → IsEnded first rest
+pub is_ended : (first : ℕ) (rest : List ℕ) → eqb (data_len rest) (length rest) ≡ false → IsEnded first rest
 is_ended first rest e =
     let n = data_len rest in
     let most : n ≤ length rest = prefix_len-le-length is_data rest in

@@ -25,7 +25,7 @@ what_some running text what (passed octet h) = omega arith
 what_some running text what (passed_long octets h long) = omega arith
 what_some running text what (segment kind first last octets s h) = omega arith
 
-delta_spelled : (place : ℕ) (has : Bool) (lead : List ℕ) (delta : ℕ) (rest : List ℕ) → SpellsDelta has lead delta → delta_read place (not has) (lead ++ rest) ≡ Ok (delta, length lead)
+pub delta_spelled : (place : ℕ) (has : Bool) (lead : List ℕ) (delta : ℕ) (rest : List ℕ) → SpellsDelta has lead delta → delta_read place (not has) (lead ++ rest) ≡ Ok (delta, length lead)
 delta_spelled place has lead delta rest no_field = refl
 delta_spelled place has lead delta rest (field text h) = ap (field_read place) (field_is_read (text ++ rest) text rest refl h)
 
@@ -76,9 +76,9 @@ pub record ReadsItem (bare : Bool) (running : Option ℕ) (octets : List ℕ) (i
   pub some : 1 ≤ used
 
 -- a delta was read from the front
-record ReadsDelta (bare : Bool) (octets : List ℕ) (delta used : ℕ) : Type 0 where
-  timed : SpellsDelta (not bare) (take used octets) delta
-  inside : used ≤ length octets
+pub record ReadsDelta (bare : Bool) (octets : List ℕ) (delta used : ℕ) : Type 0 where
+  pub timed : SpellsDelta (not bare) (take used octets) delta
+  pub inside : used ≤ length octets
 
 abbrev got : ℕ × ℕ → Result (ℕ × ℕ) SectionFault
 got read = Ok read
@@ -96,7 +96,7 @@ field_found place octets delta used (Ok x) e h =
     } in
     subst (λ (y : ℕ × ℕ). ReadsDelta false octets y.0 y.1) (same_read x (delta, used) h) made
 
-delta_found : (place : ℕ) (bare : Bool) (octets : List ℕ) (delta used : ℕ) → delta_read place bare octets ≡ got (delta, used) → ReadsDelta bare octets delta used
+pub delta_found : (place : ℕ) (bare : Bool) (octets : List ℕ) (delta used : ℕ) → delta_read place bare octets ≡ got (delta, used) → ReadsDelta bare octets delta used
 delta_found place true octets delta used h =
     subst (λ (y : ℕ × ℕ). ReadsDelta true octets y.0 y.1) (same_read (0, 0) (delta, used) h) (record { timed = no_field; inside = omega arith })
 delta_found place false octets delta used h = field_found place octets delta used (delta_at octets) refl h

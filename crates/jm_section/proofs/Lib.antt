@@ -6,3 +6,6 @@ pub mod Items
 pub mod Lists
 pub mod Sections
 pub mod Written
+pub mod Refused
+pub mod Told
+pub mod ToldSections

@@ -26,12 +26,12 @@ running_after-running running status h =
       | inr f ↦ elim (cases_Bool (ltb status 248)) [ inl t ↦ rw (f, t) tt | inr g ↦ rw (f, g) h ]
     ]
 
-running_behind-running : (running : Option ℕ) (what : What) → IsRunning running → IsRunning (running_behind running what)
+pub running_behind-running : (running : Option ℕ) (what : What) → IsRunning running → IsRunning (running_behind running what)
 running_behind-running running (Whole command) h = running_after-running running (status_of command) h
 running_behind-running running (Part kind octets) h = tt
 running_behind-running running (Passed octet) h = running_after-running running octet h
 
-running_from-running : (running : Option ℕ) (items : List Item) → IsRunning running → IsRunning (running_from running items)
+pub running_from-running : (running : Option ℕ) (items : List Item) → IsRunning running → IsRunning (running_from running items)
 running_from-running running [] h = h
 running_from-running running (item ∷ items) h = running_from-running (running_behind running item.what) items (running_behind-running running item.what h)
 
@@ -43,7 +43,7 @@ pub has_field-push : (bare : Bool) (items : List Item) (item : Item) → has_fie
 has_field-push bare [] item = refl
 has_field-push bare (first ∷ items) item = refl
 
-at_front : (bare : Bool) → not (has_field bare []) ≡ bare
+pub at_front : (bare : Bool) → not (has_field bare []) ≡ bare
 at_front true = refl
 at_front false = refl
 
@@ -87,7 +87,7 @@ resumes bare front items (one_more fore before lead text delta what s d w) m pla
     rw (step, left) (regroup before item later) in
     one ∙ two ∙ rw (place_is, has_field-push bare before item, running_from-push None before item) refl
 
-items_few : (bare : Bool) (front : List ℕ) (items : List Item) → Spells bare front items → length items ≤ length front
+pub items_few : (bare : Bool) (front : List ℕ) (items : List Item) → Spells bare front items → length items ≤ length front
 items_few bare front items nothing = omega arith
 items_few bare front items (one_more fore before lead text delta what s d w) =
     simp length-append (omega (arith, items_few bare fore before s, what_some (running_of before) text what w))
@@ -143,12 +143,12 @@ ends_with bare front rest before s (a_field e h) = ends_with_delta front rest be
     not_not true e = refl
     not_not false e = absurd cc
 
-not_back : (b : Bool) → not (not b) ≡ b
+pub not_back : (b : Bool) → not (not b) ≡ b
 not_back true = refl
 not_back false = refl
 
 -- one more item that was read
-joins : (bare : Bool) (front : List ℕ) (before : List Item) (rest : List ℕ) (item : Item) (used : ℕ) → Spells bare front before
+pub joins : (bare : Bool) (front : List ℕ) (before : List Item) (rest : List ℕ) (item : Item) (used : ℕ) → Spells bare front before
     → (r : ReadsItem (not (has_field bare before)) (running_of before) rest item used) → Spells bare (front ++ (r.lead ++ r.text)) (before ++ item ∷ [])
 joins bare front before rest item used s r =
     one_more front before r.lead r.text item.delta item.what s (subst (λ (b : Bool). SpellsDelta b r.lead item.delta) (not_back (has_field bare before)) r.timed) r.spelled

@@ -25,22 +25,22 @@ is_read section = Ok section
 
 -- ## The header
 
-record HeadRead (text : List ℕ) (head : Head) (rest : List ℕ) : Type 0 where
-  read : head_read (text ++ rest) ≡ headed head
-  size_is : length text ≡ head.size
+pub record HeadRead (text : List ℕ) (head : Head) (rest : List ℕ) : Type 0 where
+  pub read : head_read (text ++ rest) ≡ headed head
+  pub size_is : length text ≡ head.size
 
-head_spelled : (text : List ℕ) (head : Head) (rest : List ℕ) → SpellsHead text head → HeadRead text head rest
+pub head_spelled : (text : List ℕ) (head : Head) (rest : List ℕ) → SpellsHead text head → HeadRead text head rest
 unfolding head_read
 head_spelled text head [] (short_head first h) = record { read = rw (lt-ltb first 128 h) refl; size_is = refl }
 head_spelled text head (low ∷ rest) (short_head first h) = record { read = rw (lt-ltb first 128 h) refl; size_is = refl }
 head_spelled text head rest (long_head first low h) = record { read = rw (le-ltb first 128 h) refl; size_is = refl }
 
-record HeadFound (octets : List ℕ) (head : Head) : Type 0 where
-  text : List ℕ
-  rest : List ℕ
-  split : octets ≡ text ++ rest
-  spelled : SpellsHead text head
-  size_is : length text ≡ head.size
+pub record HeadFound (octets : List ℕ) (head : Head) : Type 0 where
+  pub text : List ℕ
+  pub rest : List ℕ
+  pub split : octets ≡ text ++ rest
+  pub spelled : SpellsHead text head
+  pub size_is : length text ≡ head.size
 
 same_head : (x y : Head) → headed x ≡ headed y → x ≡ y
 same_head x y e = cc
@@ -50,7 +50,7 @@ short_found first rest head h e =
     subst (λ (x : Head). HeadFound (first ∷ rest) x) (same_head (head_of first 1 (first % 16)) head e)
     (record { text = first ∷ []; rest = rest; split = refl; spelled = short_head first h; size_is = refl })
 
-head_found : (octets : List ℕ) (head : Head) → head_read octets ≡ headed head → HeadFound octets head
+pub head_found : (octets : List ℕ) (head : Head) → head_read octets ≡ headed head → HeadFound octets head
 unfolding head_read
 head_found [] head h = absurd cc
 head_found (first ∷ []) head h =
@@ -69,7 +69,7 @@ head_found (first ∷ low ∷ rest) head h =
 
 -- ## What is spelled is read
 
-drop_front : (xs ys : List ℕ) (n : ℕ) → n ≡ length xs → drop n (xs ++ ys) ≡ ys
+pub drop_front : (xs ys : List ℕ) (n : ℕ) → n ≡ length xs → drop n (xs ++ ys) ≡ ys
 drop_front [] ys n e = rw e refl
 drop_front (x ∷ xs) ys n e = rw e (drop_front xs ys (length xs) refl)
 

@@ -43,7 +43,7 @@ data_len-stops (octet ∷ octets) rest last h high =
     let both = and_parts (is_data octet) (list_all is_data octets) h in
     rw both.0 (ap (λ n. 1 + n) (data_len-stops octets rest last both.1 high) ∙ add_comm 1 (length octets) ∙ add-one (length octets))
 
-at_seam : (xs ys : List ℕ) (y : ℕ) → get_or (xs ++ y ∷ ys) (length xs) 0 ≡ y
+pub at_seam : (xs ys : List ℕ) (y : ℕ) → get_or (xs ++ y ∷ ys) (length xs) 0 ≡ y
 at_seam [] ys y = refl
 at_seam (x ∷ xs) ys y = at_seam xs ys y
 
@@ -55,7 +55,7 @@ exclusive_read-ended place first last octets rest h high =
     let some : eqb (length octets) (length (octets ++ last ∷ rest)) ≡ false = ne_eqb (length octets) (length (octets ++ last ∷ rest)) (λ e. omega arith) in
     rw (n, some, at_seam octets rest last) refl
 
-exclusive_begins : (place : ℕ) (running : Option ℕ) (first : ℕ) (rest : List ℕ) → (first ≡ 0xf0) ⊎ (first ≡ 0xf7)
+pub exclusive_begins : (place : ℕ) (running : Option ℕ) (first : ℕ) (rest : List ℕ) → (first ≡ 0xf0) ⊎ (first ≡ 0xf7)
     → what_read place running (first ∷ rest) ≡ exclusive_read place (first ∷ rest)
 unfolding what_read
 exclusive_begins place running first rest h = elim h [ inl e ↦ rw e refl | inr e ↦ rw e refl ]
@@ -67,7 +67,7 @@ tail_joins first last octets rest = ap (λ (t : List ℕ). first ∷ t) (append_
 size_is : (first last : ℕ) (octets : List ℕ) → length octets + 2 ≡ length (first ∷ (octets ++ last ∷ []))
 size_is first last octets = grind (arith, length-append, add-one)
 
-ended : (place : ℕ) (running : Option ℕ) (first last : ℕ) (octets rest : List ℕ) → ((first ≡ 0xf0) ⊎ (first ≡ 0xf7)) → IsData octets → 128 ≤ last
+pub ended : (place : ℕ) (running : Option ℕ) (first last : ℕ) (octets rest : List ℕ) → ((first ≡ 0xf0) ⊎ (first ≡ 0xf7)) → IsData octets → 128 ≤ last
     → what_read place running (first ∷ (octets ++ last ∷ rest)) ≡ exclusive_ended place (first ∷ (octets ++ last ∷ rest)) first (length octets) last
 ended place running first last octets rest f h high =
     exclusive_begins place running first (octets ++ last ∷ rest) f ∙ exclusive_read-ended place first last octets rest h high
@@ -118,7 +118,7 @@ command_begins place running (Sysex octets) rest h = sysex_read place running oc
 -- ## Running status
 
 -- a text whose first octet is data is read under the running status
-running_begins : (place : ℕ) (running : Option ℕ) (first : ℕ) (rest : List ℕ) → first < 128
+pub running_begins : (place : ℕ) (running : Option ℕ) (first : ℕ) (rest : List ℕ) → first < 128
     → what_read place running (first ∷ rest) ≡ under_running place running (first ∷ rest)
 unfolding what_read
 running_begins place running first rest low = rw (lt-ltb first 128 low) refl

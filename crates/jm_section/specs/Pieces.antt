@@ -1,9 +1,10 @@
--- A list to which commands are added at its end.
-use Rattle.std.specs.Prelude.{◌≡◌, ℕ, List, [], ◌∷◌, ◌++◌, length, ◌+◌}
-use Rattle.std.proofs.Common.{refl, sym, ap, ◌∙◌, append_assoc, length-append}
+-- How long sections are, and a list to which commands are added at its end.
+use Rattle.std.specs.Prelude.{◌≡◌, ℕ, ◌+◌, ◌≤◌, Bool, List, [], ◌∷◌, ◌++◌, length, nat_lt, if◌then◌else◌}
+use Rattle.std.proofs.Common.{refl, sym, ap, ◌∙◌, append_assoc, arith, inl, inr, length-append}
 use Rattle.std.proofs.lemmas.List.{append-nil}
+use Rattle.std.proofs.lemmas.Bool.{cases_Bool}
 use Rattle.jm_section.specs.declared.next.Place.{Place}
-use Rattle.jm_section.specs.Section.{Timed, piece, pieces, place_after}
+use Rattle.jm_section.specs.Section.{Timed, piece, pieces, place_after, list_text, header, section_of}
 
 -- the place behind commands that begin at this one
 abbrev pub place_behind : Place → List Timed → Place
@@ -27,3 +28,19 @@ pieces-push place ts t = pieces-append place ts (t ∷ []) ∙ ap (λ (text : Li
 pub length-pieces-push : (place : Place) (ts : List Timed) (t : Timed) → length (pieces place (ts ++ t ∷ [])) ≡ length (pieces place ts) + length (piece (place_behind place ts) t)
 length-pieces-push place ts t =
     ap length (pieces-push place ts t) ∙ length-append (pieces place ts) (piece (place_behind place ts) t)
+
+pub place_behind-push : (place : Place) (ts : List Timed) (t : Timed) → place_behind place (ts ++ t ∷ []) ≡ place_after (place_behind place ts) t.command
+place_behind-push place ts t = place_behind-append place ts (t ∷ [])
+
+-- a header has one octet or two
+pub length-header : (len : ℕ) (journal : Bool) → length (header len journal) ≡ (if nat_lt len 16 then 1 else 2)
+unfolding header
+length-header len journal = elim (cases_Bool (nat_lt len 16)) [ inl t ↦ rw t refl | inr f ↦ rw f refl ]
+
+pub length-header-le : (len : ℕ) (journal : Bool) → length (header len journal) ≤ 2
+unfolding header
+length-header-le len journal = elim (cases_Bool (nat_lt len 16)) [ inl t ↦ rw t (omega arith) | inr f ↦ rw f (omega arith) ]
+
+pub length-section_of : (ts : List Timed) (journal : Bool) → length (section_of ts journal) ≤ length (list_text ts) + 2
+length-section_of ts journal =
+    omega (arith, length-append (header (length (list_text ts)) journal) (list_text ts), length-header-le (length (list_text ts)) journal)

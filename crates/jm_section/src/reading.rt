@@ -1,10 +1,11 @@
 //! Reading a whole section.
 
-ghost use Rattle.std.specs.Prelude.{◌≡◌, ◌+◌, ◌<◌, ◌≤◌, ◌∷◌, length, take, drop, None, Ok, IfOk, IfSome};
+ghost use Rattle.std.specs.Prelude.{◌≡◌, ◌+◌, ◌<◌, ◌≤◌, ◌∷◌, length, take, drop, None, Ok, Err, IfOk, IfErr, IfSome};
 ghost use Rattle.jm_cmds.specs.Data.{data_len};
 ghost use Rattle.jm_cmds.specs.Gives.{Gives};
 ghost use Rattle.jm_cmds.specs.Reading.{command_read};
 ghost use Rattle.jm_section.specs.Grammar.{running_behind, Read, IsSection};
+ghost use Rattle.jm_section.specs.Faults.{IsFault, IsTold};
 ghost use Rattle.jm_section.specs.Reading.{GivesBy, head_of, whole, place_less, under_running, exclusive_read, delta_read, what_read, item_read, items_read, head_read, section_read, section_view};
 
 use crate::header::read_head;
@@ -307,7 +308,11 @@ pub fn read_section(b: &[u8], alloc: Global) -> Result<Section, ReadError<Sectio
     ensures read { IfOk result (λ s. IsSection b.now (section_view s)) }
     // What stands at the front is read, unless memory is refused.
     ensures only { (section : Read) → IsSection b.now section → GivesBy section_view result (Ok section) }
-    // Which fault it is.
+    // The fault that is told is the first one.
+    ensures told { IfErr result (IsTold b.now) }
+    // The first fault is told, unless memory is refused.
+    ensures faults { (fault : SectionFault) → IsFault b.now fault → GivesBy section_view result (Err fault) }
+
     ensures exact { GivesBy section_view result (section_read b.now) }
 {
     section_at(b, alloc)

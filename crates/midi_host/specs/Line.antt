@@ -67,6 +67,22 @@ cut_line rest = do
   tick ← need (number_of (2 ^ 62) words)
   Ok (line.Cut tick)
 
+-- `ack SSRC SEQ`
+unfoldable pub ack_line : Option (List ℕ) → Result Line LineFault
+ack_line rest = do
+  words ← need rest
+  ssrc ← need (ssrc_of (first_word words))
+  last ← need (other_words words)
+  seq ← need (number_of 65535 last)
+  Ok (line.Ack ssrc seq)
+
+-- `join SSRC`
+unfoldable pub join_line : Option (List ℕ) → Result Line LineFault
+join_line rest = do
+  words ← need rest
+  ssrc ← need (ssrc_of words)
+  Ok (line.Join ssrc)
+
 -- A line by its first word: `session` stands once, before all others.
 abbrev pub line_by : Bool → Option Keyword → Option (List ℕ) → Result Line LineFault
 line_by started None rest = Err Word
@@ -74,6 +90,8 @@ line_by started (Some keyword.Session) rest = if started then Err Word else sess
 line_by started (Some keyword.Enter) rest = if started then enter_line rest else Err Word
 line_by started (Some keyword.Play) rest = if started then play_line rest else Err Word
 line_by started (Some keyword.Cut) rest = if started then cut_line rest else Err Word
+line_by started (Some keyword.Ack) rest = if started then ack_line rest else Err Word
+line_by started (Some keyword.Join) rest = if started then join_line rest else Err Word
 
 -- what a line says, where `started` tells whether a session line was taken before
 abbrev pub line_of : Bool → List ℕ → Result Line LineFault

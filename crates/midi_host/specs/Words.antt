@@ -5,7 +5,7 @@ use Rattle.std.specs.Str.{bytes_eq}
 use Rattle.std.specs.Int.{w32, from_be_bytes}
 use Rattle.hex.specs.Hex.{decode_of, decode_sized}
 use Rattle.midi_host.specs.declared.words.Keyword.{Keyword}
-use Rattle.midi_host.specs.declared.words.Keyword.TheVariants.{Session, Enter, Play, Cut}
+use Rattle.midi_host.specs.declared.words.Keyword.TheVariants.{Session, Enter, Play, Cut, Ack, Join}
 use Rattle.std.specs.List.{list_all}
 use Rattle.std.specs.Char.{is_ascii_digit}
 use Rattle.std.specs.Str.Parse.{digits_value}
@@ -46,4 +46,6 @@ keyword_of word =
     else if bytes_eq word (codes "enter") then Some Enter
     else if bytes_eq word (codes "play") then Some Play
     else if bytes_eq word (codes "cut") then Some Cut
+    else if bytes_eq word (codes "ack") then Some Ack
+    else if bytes_eq word (codes "join") then Some Join
     else None

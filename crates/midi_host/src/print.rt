@@ -3,10 +3,10 @@
 ghost use Rattle.std.specs.Prelude.{◌≡◌, ◌++◌, OnOk, decimal};
 ghost use Rattle.hex.specs.Hex.{encode_lower};
 ghost use Rattle.jm_wire.specs.Numbers.{be32};
-ghost use Rattle.midi_host.specs.AnswerText.{record_full_text, entered_text, accepted_text, refused_text, cutted_text};
+ghost use Rattle.midi_host.specs.AnswerText.{record_full_text, entered_text, accepted_text, refused_text, last_text, acked_text, joined_text, cutted_text};
 
 use itoa::Buffer;
-use jm_book::{Cutted, Entered, PlayFault};
+use jm_book::{Acked, Cutted, Entered, Joined, PlayFault};
 use std::alloc::{AllocError, Global};
 
 /// Adds a number in decimal digits.
@@ -114,6 +114,77 @@ pub fn add_refused(out: &mut Vec<u8>, why: PlayFault) -> Result<(), AllocError>
             delta,
         } => {
             add_needs_cut(out, pending, octets, delta)?;
+            Ok(())
+        }
+    }
+}
+
+/// Adds that a report was of a packet past the last one sent.
+fn add_not_sent(out: &mut Vec<u8>, last: Option<u64>) -> Result<(), AllocError>
+    ensures { OnOk result (out.new.items ≡ out.old.items ++ last_text last) }
+{
+    match last {
+        None => {
+            out.extend_from_slice(b"refused not-sent none\n")?;
+            Ok(())
+        }
+        Some(last) => {
+            add_numbered(out, b"refused not-sent ", last, b"\n")?;
+            Ok(())
+        }
+    }
+}
+
+/// Adds what a report is answered.
+#[tactic(auto, unfolding(crate::specs::AnswerText::acked_text))]
+pub fn add_acked(out: &mut Vec<u8>, answer: Acked) -> Result<(), AllocError>
+    ensures { OnOk result (out.new.items ≡ out.old.items ++ acked_text answer) }
+{
+    match answer {
+        Acked::Moved { mark } => {
+            add_numbered(out, b"mark ", mark, b"\n")?;
+            Ok(())
+        }
+        Acked::UnknownSsrc => {
+            out.extend_from_slice(b"refused unknown-ssrc\n")?;
+            Ok(())
+        }
+        Acked::RecordFull { events } => {
+            add_record_full(out, events)?;
+            Ok(())
+        }
+        Acked::Old { mark } => {
+            add_numbered(out, b"refused old ", mark, b"\n")?;
+            Ok(())
+        }
+        Acked::NotSent { last } => {
+            add_not_sent(out, last)?;
+            Ok(())
+        }
+    }
+}
+
+/// Adds what a joining participant is answered.
+#[tactic(auto, unfolding(crate::specs::AnswerText::joined_text))]
+pub fn add_joined(out: &mut Vec<u8>, answer: Joined) -> Result<(), AllocError>
+    ensures { OnOk result (out.new.items ≡ out.old.items ++ joined_text answer) }
+{
+    match answer {
+        Joined::At { mark, player } => {
+            add_numbered(out, b"joined ", mark, b" ")?;
+            add_numbered(out, b"", u64::from(player), b"\n")?;
+            Ok(())
+        }
+        Joined::Already => {
+            out.extend_from_slice(b"refused already\n")?;
+            Ok(())
+        }
+        Joined::RecordFull { events } => {
+            add_record_full(out, events)?;
+            Ok(())
+        }
+        Joined::SessionFull { most } => {
+            add_numbered(out, b"refused session-full ", u64::from(most), b"\n")?;
             Ok(())
         }
     }

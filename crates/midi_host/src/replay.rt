@@ -7,7 +7,7 @@ ghost use Rattle.midi_host.specs.ReplayState.{answered, lined, state_of, state_o
 ghost use Rattle.midi_host.specs.Heard.{Hears};
 ghost use Rattle.midi_host.specs.Line.{IsInRange};
 
-use super::print::{add_accepted, add_cutted, add_entered, add_refused};
+use super::print::{add_accepted, add_acked, add_cutted, add_entered, add_joined, add_refused};
 use super::room::PacketRoom;
 use super::script::{Line, LineFault, read_line};
 use super::verb::{Cause, Heard, Verb};
@@ -20,7 +20,6 @@ use std::alloc::{AllocError, Global};
 pub struct Started {
     pub book: Book,
     pub room: PacketRoom,
-    pub entered: bool,
 }
 
 /// The verb, and its session once there is one.
@@ -49,16 +48,12 @@ fn refuse(error: ReadError<LineFault>) -> Result<Heard, AllocError>
     }
 }
 
-/// `enter`, which stands once.
+/// `enter`.
 fn enter(session: &mut Started, out: &mut Vec<u8>) -> Result<Heard, AllocError>
     ensures { Did result (answered (state_of_started session.old) Line.Enter) (state_of_started session.new) out.old.items out.new.items }
 {
-    if session.entered {
-        return Ok(Heard::Bad(Cause::Form));
-    }
     session.book.reserve()?;
     let answer = session.book.enter();
-    session.entered = true;
     add_entered(out, answer)?;
     Ok(Heard::Taken)
 }
@@ -101,6 +96,26 @@ fn cut(
     Ok(Heard::Taken)
 }
 
+/// `ack SSRC SEQ`.
+fn ack(session: &mut Started, ssrc: u32, seq: u16, out: &mut Vec<u8>) -> Result<Heard, AllocError>
+    ensures { Did result (answered (state_of_started session.old) (Line.Ack ssrc seq)) (state_of_started session.new) out.old.items out.new.items }
+{
+    session.book.reserve()?;
+    let answer = session.book.ack(ssrc, seq);
+    add_acked(out, answer)?;
+    Ok(Heard::Taken)
+}
+
+/// `join SSRC`.
+fn join(session: &mut Started, ssrc: u32, out: &mut Vec<u8>) -> Result<Heard, AllocError>
+    ensures { Did result (answered (state_of_started session.old) (Line.Join ssrc)) (state_of_started session.new) out.old.items out.new.items }
+{
+    session.book.reserve()?;
+    let answer = session.book.join(ssrc);
+    add_joined(out, answer)?;
+    Ok(Heard::Taken)
+}
+
 impl Replay {
     /// The answer of a line that is in the grammar.
     fn answer(&mut self, line: Line, alloc: Global, out: &mut Vec<u8>) -> Result<Heard, AllocError>
@@ -132,6 +147,18 @@ impl Replay {
                 };
                 cut(session, tick, alloc, out)
             }
+            Line::Ack { ssrc, seq } => {
+                let Some(session) = &mut self.session else {
+                    return Ok(Heard::Bad(Cause::Word));
+                };
+                ack(session, ssrc, seq, out)
+            }
+            Line::Join { ssrc } => {
+                let Some(session) = &mut self.session else {
+                    return Ok(Heard::Bad(Cause::Word));
+                };
+                join(session, ssrc, out)
+            }
         }
     }
 }
@@ -153,7 +180,6 @@ fn start(
     replay.session = Some(Started {
         book,
         room,
-        entered: false,
     });
     Ok(Heard::Taken)
 }

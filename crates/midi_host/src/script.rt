@@ -3,7 +3,7 @@
 ghost use Rattle.std.specs.Prelude.{◌≡◌, ◌+◌, ◌^◌, ◌≤◌, length, Option, List, option_map, IfOk};
 ghost use Rattle.jm_cmds.specs.Gives.{Gives};
 ghost use Rattle.jm_cmds.specs.Reading.{command_read};
-ghost use Rattle.midi_host.specs.Line.{line_of, line_by, session_line, enter_line, play_line, cut_line, whole_command, is_note, IsInRange};
+ghost use Rattle.midi_host.specs.Line.{line_of, line_by, session_line, enter_line, play_line, cut_line, ack_line, join_line, whole_command, is_note, IsInRange};
 
 use super::words::{Keyword, hex_octets, number, read_keyword, split_word, ssrc};
 use jm_cmds::{Command, ReadError, read_command};
@@ -36,6 +36,15 @@ pub enum Line {
     /// `cut TICK`.
     Cut {
         tick: u64,
+    },
+    /// `ack SSRC SEQ`.
+    Ack {
+        ssrc: u32,
+        seq: u16,
+    },
+    /// `join SSRC`.
+    Join {
+        ssrc: u32,
     },
 }
 
@@ -102,6 +111,46 @@ fn read_cut(rest: Option<&[u8]>) -> Result<Line, LineFault>
         return Err(LineFault::Form);
     };
     Ok(Line::Cut { tick })
+}
+
+/// `ack SSRC SEQ`: what stands behind the first word.
+#[tactic(auto, unfolding(crate::specs::Line::ack_line))]
+fn read_ack(rest: Option<&[u8]>) -> Result<Line, LineFault>
+    ensures line { result ≡ ack_line (option_map (λ r. r.now) rest.entry) }
+    ensures range { IfOk result IsInRange }
+{
+    let Some(words) = rest else {
+        return Err(LineFault::Form);
+    };
+    let (first, others) = split_word(words);
+    let Some(ssrc) = ssrc(first) else {
+        return Err(LineFault::Form);
+    };
+    let Some(last) = others else {
+        return Err(LineFault::Form);
+    };
+    let Some(seq) = number(last, 65_535) else {
+        return Err(LineFault::Form);
+    };
+    Ok(Line::Ack {
+        ssrc,
+        seq: seq as u16,
+    })
+}
+
+/// `join SSRC`: what stands behind the first word.
+#[tactic(auto, unfolding(crate::specs::Line::join_line))]
+fn read_join(rest: Option<&[u8]>) -> Result<Line, LineFault>
+    ensures line { result ≡ join_line (option_map (λ r. r.now) rest.entry) }
+    ensures range { IfOk result IsInRange }
+{
+    let Some(words) = rest else {
+        return Err(LineFault::Form);
+    };
+    let Some(ssrc) = ssrc(words) else {
+        return Err(LineFault::Form);
+    };
+    Ok(Line::Join { ssrc })
 }
 
 fn is_note(command: &Command) -> bool
@@ -197,6 +246,8 @@ fn read_by(
         Keyword::Enter => pure(read_enter(rest)),
         Keyword::Play => read_play(rest, alloc),
         Keyword::Cut => pure(read_cut(rest)),
+        Keyword::Ack => pure(read_ack(rest)),
+        Keyword::Join => pure(read_join(rest)),
     }
 }
 

@@ -15,8 +15,8 @@ fn runs(
     text: &[u8],
 ) -> Result<(Status, bool), Fail> {
     let words = [Word::new("replay", alloc)?];
-    let mut source = MemSource::new(input, reads, alloc)?;
-    let mut sink = MemSink::new(512, writes, alloc)?;
+    let mut source = MemSource::new(alloc, input, reads)?;
+    let mut sink = MemSink::new(alloc, 512, writes)?;
     let status = run(&words, &mut source, &mut sink, alloc);
     Ok((status, sink.as_slice() == text))
 }
@@ -33,7 +33,7 @@ fn no_lines_have_no_answers(rt: HostRuntime) -> Result<(), Fail> {
 #[test]
 fn first_note_becomes_a_packet(rt: HostRuntime) -> Result<(), Fail> {
     let text =
-        b"session\nplayer 0\naccepted 0 kept\npacket 0 80e10000000000641122334403903c64\npacket 1 80610001000000c81122334400\n";
+        b"session\nplayer 0\naccepted 0 kept\npacket 0 80e10000000000641122334403903c64\npacket 1 80610001000000c8112233444020000000070881f03ce4\n";
     assert_eq!(rt;
         runs(rt.alloc(), FIRST_NOTE, &[], &[], text)?,
         (Status::Done, true)
@@ -76,8 +76,8 @@ fn other_words_are_refused(rt: HostRuntime) -> Result<(), Fail> {
         Word::new("replay", rt.alloc())?,
         Word::new("x", rt.alloc())?,
     ];
-    let mut source = MemSource::new(b"a\n", &[], rt.alloc())?;
-    let mut sink = MemSink::new(64, &[], rt.alloc())?;
+    let mut source = MemSource::new(rt.alloc(), b"a\n", &[])?;
+    let mut sink = MemSink::new(rt.alloc(), 64, &[])?;
     assert_eq!(rt;
         run(&words, &mut source, &mut sink, rt.alloc()),
         Status::Usage

@@ -90,6 +90,8 @@ pub enum Keyword {
     Enter,
     Play,
     Cut,
+    Ack,
+    Join,
 }
 
 /// The keyword that a word is, if it is one.
@@ -107,6 +109,12 @@ pub fn read_keyword(word: &[u8]) -> Option<Keyword>
     }
     if word == b"cut".as_slice() {
         return Some(Keyword::Cut);
+    }
+    if word == b"ack".as_slice() {
+        return Some(Keyword::Ack);
+    }
+    if word == b"join".as_slice() {
+        return Some(Keyword::Join);
     }
     None
 }

@@ -6,17 +6,21 @@ use Rattle.jm_book.proofs.book.Book.write_packet.Goals as goal
 
 pub write_section_header-requires-clause-room : goal.write_section_header-requires-clause-room
 write_section_header-requires-clause-room c =
-    omega (arith, length_section_header c.list_len.result false, c.write_header.ensures.spare, c.requires)
+    omega (arith, length_section_header c.list_len.result c.has_journal.result, c.write_header.ensures.spare, c.requires)
 
 pub write_list-requires-clause-room : goal.write_list-requires-clause-room
 write_list-requires-clause-room c =
-    omega (arith, length_section_header c.list_len.result false, c.write_header.ensures.spare, c.write_section_header.ensures.spare, c.pending_commands-pending.ensures.short, c.requires)
+    omega (arith, length_section_header c.list_len.result c.has_journal.result, c.write_header.ensures.spare, c.write_section_header.ensures.spare, c.pending_commands-pending.ensures.short, c.requires)
+
+pub write_next_journal-requires : goal.write_next_journal-requires
+write_next_journal-requires c =
+    omega (arith, length_section_header c.list_len.result c.has_journal.result, c.write_header.ensures.spare, c.write_section_header.ensures.spare, c.write_list.ensures.spare, c.pending_commands-pending.ensures.short, c.requires)
 
 pub returns : goal.returns
 unfolding packet_of
 returns c =
     let pending = c.pending_commands-pending.ensures.commands in
     let head = rw c.next_header.ensures at c.write_header.ensures in
-    let section = rw c.list_len.ensures at c.write_section_header.ensures in
+    let section = rw (c.list_len.ensures, c.has_journal.ensures) at c.write_section_header.ensures in
     let list = rw pending at c.write_list.ensures in
-    joined head (joined section list)
+    joined (joined head (joined section list)) c.write_next_journal.ensures
