@@ -1,9 +1,9 @@
 -- The participants of legal lists of steps: their marks, their SSRCs, their slots, and the checkpoint.
-use Rattle.std.proofs.Common.{ℕ, zero, suc, ◌+◌, ◌<◌, ◌≤◌, ◌≡◌, refl, ap, true, false, List, [], ◌∷◌, Some, map, length, inl, inr, arith}
+use Rattle.std.proofs.Common.{◌≢◌, ◌++◌, ℕ, zero, suc, ◌+◌, ◌<◌, ◌≤◌, ◌≡◌, refl, ap, true, false, List, [], ◌∷◌, Some, map, length, inl, inr, arith}
 use Rattle.std.specs.Prelude.{nat_eq, nat_le, ◌==◌, is_some}
 use Rattle.std.specs.List.{AllByRecursion, filter, list_any}
 use Rattle.std.specs.Cmp.{nat_eq_equiv}
-use Rattle.std.proofs.lemmas.Bool.{cases_Bool}
+use Rattle.std.proofs.lemmas.Bool.{cases_Bool, eqb-true}
 use Rattle.std.proofs.lemmas.Bool.Decides.{nat_tests}
 use Rattle.jm_book.specs.declared.participants.Participant.{Participant}
 use Rattle.jm_book.specs.Session.{find_joined, has_slot, free_from, free_slot, moved}
@@ -45,6 +45,32 @@ found_all P ssrc [] one found h = absurd cc
 found_all P ssrc (first ∷ others) one found h = elim (cases_Bool (first.ssrc == ssrc)) [
   | inl t ↦ let same : Some first ≡ Some one = rw t at found in let is : first ≡ one = cc in rw (← is) h.0
   | inr f ↦ let later : find_joined ssrc others ≡ Some one = rw f at found in found_all P ssrc others one later h.1
+]
+
+-- the moved mark is found, and the marks of others are as they were
+pub find_moved : (ssrc mark : ℕ) (joined : List Participant) (one : Participant) → find_joined ssrc joined ≡ Some one → find_joined ssrc (moved ssrc mark joined) ≡ Some (record one { mark = mark })
+find_moved ssrc mark [] one found = absurd cc
+find_moved ssrc mark (first ∷ others) one found = elim (cases_Bool (first.ssrc == ssrc)) [
+  | inl t ↦ let same : Some first ≡ Some one = rw t at found in let is : first ≡ one = cc in rw (t, t, is) refl
+  | inr f ↦ let later : find_joined ssrc others ≡ Some one = rw f at found in rw (f, f) (find_moved ssrc mark others one later)
+]
+
+pub find_other : (ssrc mark other : ℕ) (joined : List Participant) → other ≢ ssrc → find_joined other (moved ssrc mark joined) ≡ find_joined other joined
+find_other ssrc mark other [] apart = refl
+find_other ssrc mark other (first ∷ others) apart = elim (cases_Bool (first.ssrc == ssrc)) [
+  | inl t ↦
+      let same : first.ssrc ≡ ssrc = eqb-true first.ssrc ssrc t in
+      let differs : (first.ssrc == other) ≡ false = grind (arith, nat_tests, same, apart) in
+      rw (t, differs) refl
+  | inr f ↦ let later = find_other ssrc mark other others apart in elim (cases_Bool (first.ssrc == other)) [ inl t ↦ rw (f, t) refl | inr n ↦ rw (f, n) later ]
+]
+
+-- one that joins is found
+pub find_push : (joined : List Participant) (one : Participant) → is_some (find_joined one.ssrc joined) ≡ false → find_joined one.ssrc (joined ++ one ∷ []) ≡ Some one
+find_push [] one absent = let same : (one.ssrc == one.ssrc) ≡ true = nat_eq_equiv.refl one.ssrc in rw same refl
+find_push (first ∷ others) one absent = elim (cases_Bool (first.ssrc == one.ssrc)) [
+  | inl t ↦ let bad : true ≡ false = rw t at absent in absurd cc
+  | inr f ↦ let later : is_some (find_joined one.ssrc others) ≡ false = rw f at absent in rw f (find_push others one later)
 ]
 
 -- an SSRC that isn't found is none of theirs

@@ -8,6 +8,7 @@ pub mod Legal
 pub mod LegalJoined
 pub mod LegalLaws
 pub mod MarkLaws
+pub mod Marks
 pub mod OrderLaws
 pub mod Packet
 pub mod Pending
@@ -15,6 +16,7 @@ pub mod PlayLaws
 pub mod Plays
 pub mod Session
 pub mod StepLaws
+pub mod StepMarks
 pub mod TakenLaws
 pub mod Tape
 pub mod TickLaws

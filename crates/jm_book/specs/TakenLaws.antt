@@ -36,11 +36,11 @@ cut_came : (full : Bool) (events : ℕ) (other : Cutted) → is_packet (if full 
 cut_came true events other h = absurd cc
 cut_came false events other h = refl
 
-ack_came : (full old ahead : Bool) (events mark to : ℕ) (last : Option ℕ) → is_moved (if full then acked.RecordFull events else if old then acked.Old mark else if ahead then acked.NotSent last else acked.Moved to) ≡ true → (full ≡ false) × (ahead ≡ false)
+ack_came : (full old ahead : Bool) (events mark to : ℕ) (last : Option ℕ) → is_moved (if full then acked.RecordFull events else if old then acked.Old mark else if ahead then acked.NotSent last else acked.Moved to) ≡ true → (full ≡ false) × (old ≡ false) × (ahead ≡ false)
 ack_came true old ahead events mark to last h = absurd cc
 ack_came false true ahead events mark to last h = absurd cc
 ack_came false false true events mark to last h = absurd cc
-ack_came false false false events mark to last h = (refl, refl)
+ack_came false false false events mark to last h = (refl, refl, refl)
 
 join_came : (known full many : Bool) (events most mark player : ℕ) → is_joined (if known then joined.Already else if full then joined.RecordFull events else if many then joined.SessionFull most else joined.At mark player) ≡ true → (known ≡ false) × (full ≡ false) × (many ≡ false)
 join_came true full many events most mark player h = absurd cc
@@ -50,10 +50,18 @@ join_came false false false events most mark player h = (refl, refl, refl)
 
 -- ---- what each taken step says
 
--- the report is of a joined participant, and the mark moves to a packet that was sent
+-- neither of two tests is passed
+neither : (a b : Bool) → (a || b) ≡ false → (a ≡ false) × (b ≡ false)
+neither true b h = absurd cc
+neither false true h = absurd cc
+neither false false h = (refl, refl)
+
+-- the report is of a joined participant, and the mark moves on, less than half a round, to a packet that was sent
 pub record Reports (s : Session) (ssrc seq : ℕ) : Type 0 where
   pub one : Participant
   pub found : find_joined ssrc s.joined ≡ Some one
+  pub past : 0 < distance one.mark seq
+  pub near : distance one.mark seq < 32768
   pub sent : one.mark + distance one.mark seq < length s.packets
 
 ack_found : (config : Config) (steps : List Step) (ssrc seq : ℕ) (found : Option Participant) → find_joined ssrc (session_of steps).joined ≡ found → is_moved (ack_of config steps seq found) ≡ true → (is_full config steps ≡ false) × Reports (session_of steps) ssrc seq
@@ -61,7 +69,16 @@ ack_found config steps ssrc seq None is h = absurd cc
 ack_found config steps ssrc seq (Some one) is h =
     let to = one.mark + distance one.mark seq in
     let came = ack_came (is_full config steps) (distance one.mark seq == 0 || nat_le 32768 (distance one.mark seq)) (nat_le (length (session_of steps).packets) to) config.events one.mark to (last_packet (session_of steps)) h in
-    (came.0, record { one = one; found = is; sent = grind (arith, nat_tests, came.1) })
+    let apart = neither (distance one.mark seq == 0) (nat_le 32768 (distance one.mark seq)) came.1 in (
+      came.0,
+      record {
+        one = one;
+        found = is;
+        past = grind (arith, nat_tests, apart.0);
+        near = grind (arith, nat_tests, apart.1);
+        sent = grind (arith, nat_tests, came.2);
+      },
+    )
 
 pub ack_taken : (config : Config) (steps : List Step) (ssrc seq : ℕ) → IsTaken config steps (Ack ssrc seq) → (is_full config steps ≡ false) × Reports (session_of steps) ssrc seq
 ack_taken config steps ssrc seq h = ack_found config steps ssrc seq (find_joined ssrc (session_of steps).joined) refl h

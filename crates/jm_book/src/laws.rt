@@ -1,7 +1,7 @@
 //! What holds of every session, over the definitions that this crate's contracts cite. Each law is the
 //! contract of a function that does nothing.
 
-ghost use Rattle.jm_book.specs.Laws.{PacketsInOrder, TicksInOrder, KeepsPlays, NumbersPlays, KeepsPlayersInOrder, CountsPlays, SendsEntries, TakesLegally, TookLegally, PassesNoMark, NeverFalls, MarksSent, JoinsOnce, SharesNoSlot, FitsTape};
+ghost use Rattle.jm_book.specs.Laws.{PacketsInOrder, TicksInOrder, KeepsPlays, NumbersPlays, KeepsPlayersInOrder, CountsPlays, SendsEntries, TakesLegally, TookLegally, PassesNoMark, NeverFalls, MarksSent, JoinsOnce, SharesNoSlot, FitsTape, CallsKeepLegal, ReportsAdvance, JoinsAtLast};
 
 /// Packet numbers never fall along the sent commands, nor along those and the pending ones.
 pub fn packets_in_order()
@@ -78,4 +78,20 @@ pub fn shares_no_slot()
 /// Legal steps are no more than the session was made for.
 pub fn fits_tape()
     ensures { FitsTape }
+{}
+
+/// A call of a book that has legal steps leaves legal steps, where it takes a step just as it answers.
+pub fn calls_keep_legal()
+    ensures { CallsKeepLegal }
+{}
+
+/// A report that is taken moves the mark on to the sent packet whose low 16 bits it tells, less than
+/// half a round away, and moves no other mark.
+pub fn reports_advance()
+    ensures { ReportsAdvance }
+{}
+
+/// A joiner's mark is the last sent packet, or 0 where none was sent.
+pub fn joins_at_last()
+    ensures { JoinsAtLast }
 {}
