@@ -1,11 +1,15 @@
 -- What the laws of this crate say of every list of steps.
-use Rattle.std.specs.Prelude.{ℕ, ◌≡◌, ◌≤◌, ◌==◌, List, [], ◌∷◌, ◌++◌, map, filter}
-use Rattle.std.specs.List.{AllByRecursion, range_with_len}
+use Rattle.std.specs.Prelude.{ℕ, ◌≡◌, ◌≤◌, ◌<◌, ◌==◌, nat_eq, Bool, true, List, [], ◌∷◌, ◌++◌, length, map, filter}
+use Rattle.std.specs.List.{AllByRecursion, IsDistinct, range_with_len}
 use Rattle.jm_cmds.specs.History.{InOrder}
 use Rattle.jm_cmds.specs.Sent.{packet_of, tick_of}
 use Rattle.jm_book.specs.declared.steps.Config.{Config}
 use Rattle.jm_book.specs.declared.steps.Step.{Step}
-use Rattle.jm_book.specs.Session.{Entry, session_of, sent_of, pending_of, checkpoint_of}
+use Rattle.jm_book.specs.declared.steps.Step.TheVariants.{Ack, Join}
+use Rattle.jm_book.specs.Session.{Entry, session_of, sent_of, pending_of, last_sent, checkpoint_of}
+use Rattle.jm_book.specs.Book.{Told, Takes}
+use Rattle.jm_book.specs.Marks.{Advances, Enters}
+use Rattle.jm_book.specs.JoinedLaws.{ssrcs_of, slots_of}
 use Rattle.jm_book.specs.Legal.{IsTaken, IsLegal}
 use Rattle.jm_book.specs.Plays.{play_count, greatest_tick, plays_of, played_by, entries_of, sent_pair, entry_pair}
 
@@ -49,3 +53,35 @@ TookLegally = (config : Config) (steps : List Step) (step : Step) → IsLegal co
 -- The checkpoint passes no joined participant's mark.
 abbrev pub PassesNoMark : Type 0
 PassesNoMark = (steps : List Step) → AllByRecursion (λ one. checkpoint_of (session_of steps) ≤ one.mark) (session_of steps).joined
+
+-- Along legal steps the checkpoint never falls.
+abbrev pub NeverFalls : Type 0
+NeverFalls = (config : Config) (steps more : List Step) → IsLegal config (steps ++ more) → checkpoint_of (session_of steps) ≤ checkpoint_of (session_of (steps ++ more))
+
+-- After legal steps no mark is past the last sent packet, or 0 where none was sent.
+abbrev pub MarksSent : Type 0
+MarksSent = (config : Config) (steps : List Step) → IsLegal config steps → AllByRecursion (λ one. one.mark ≤ last_sent (session_of steps)) (session_of steps).joined
+
+-- After legal steps no SSRC is joined twice.
+abbrev pub JoinsOnce : Type 0
+JoinsOnce = (config : Config) (steps : List Step) → IsLegal config steps → IsDistinct nat_eq (ssrcs_of (session_of steps).joined)
+
+-- After legal steps each joined participant has a slot of its own, one of 32.
+abbrev pub SharesNoSlot : Type 0
+SharesNoSlot = (config : Config) (steps : List Step) → IsLegal config steps → IsDistinct nat_eq (slots_of (session_of steps).joined) × AllByRecursion (λ slot. slot < 32) (slots_of (session_of steps).joined)
+
+-- Legal steps are no more than the session was made for.
+abbrev pub FitsTape : Type 0
+FitsTape = (config : Config) (steps : List Step) → IsLegal config steps → length steps ≤ config.events
+
+-- A call of a book that has legal steps leaves legal steps, where it takes a step just as it answers.
+abbrev pub CallsKeepLegal : Type 0
+CallsKeepLegal = (old new : Told) (step : Step) (taken : Bool) → (taken ≡ true → IsTaken old.config old.steps step) → Takes old new taken step → IsLegal old.config old.steps → IsLegal new.config new.steps
+
+-- A taken report of 16 bits moves the mark to the sent packet that it tells of, and no other mark.
+abbrev pub ReportsAdvance : Type 0
+ReportsAdvance = (config : Config) (steps : List Step) (ssrc seq : ℕ) → seq < 65536 → IsTaken config steps (Ack ssrc seq) → Advances (session_of steps) (session_of (steps ++ Ack ssrc seq ∷ [])) ssrc seq
+
+-- A joiner's mark is the last sent packet, or 0 where none was sent.
+abbrev pub JoinsAtLast : Type 0
+JoinsAtLast = (config : Config) (steps : List Step) (ssrc : ℕ) → IsTaken config steps (Join ssrc) → Enters (session_of (steps ++ Join ssrc ∷ [])) ssrc

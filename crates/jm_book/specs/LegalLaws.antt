@@ -1,7 +1,8 @@
 -- Legal lists of steps: their fronts are legal, and what each taken step keeps holds of them.
-use Rattle.std.proofs.Common.{List, [], ◌∷◌, ◌++◌, append_assoc, append-nil}
+use Rattle.std.proofs.Common.{◌≡◌, refl, Bool, true, false, List, [], ◌∷◌, ◌++◌, append_assoc, append-nil}
 use Rattle.jm_book.specs.declared.steps.Config.{Config}
 use Rattle.jm_book.specs.declared.steps.Step.{Step}
+use Rattle.jm_book.specs.Book.{Told, Takes}
 use Rattle.jm_book.specs.Legal.{IsTaken, AreTaken, IsLegal}
 
 pub taken_push : (config : Config) (before steps : List Step) (step : Step) → AreTaken config before steps → IsTaken config (before ++ steps) step → AreTaken config before (steps ++ step ∷ [])
@@ -31,3 +32,8 @@ taken_keeps config P more before (step ∷ steps) p h =
 
 pub legal_keeps : (config : Config) (P : List Step → Type 0) → ((steps : List Step) (step : Step) → P steps → IsTaken config steps step → P (steps ++ step ∷ [])) → P [] → (steps : List Step) → IsLegal config steps → P steps
 legal_keeps config P more none steps h = taken_keeps config P more [] steps none h
+
+-- a call that takes just steps that are taken keeps a book's steps legal
+pub call_keeps_legal : (old new : Told) (step : Step) (taken : Bool) → (taken ≡ true → IsTaken old.config old.steps step) → Takes old new taken step → IsLegal old.config old.steps → IsLegal new.config new.steps
+call_keeps_legal old new step true is call legal = rw (call.config, call.steps) (legal_push old.config old.steps step legal (is refl))
+call_keeps_legal old new step false is call legal = rw (call.config, call.steps) legal

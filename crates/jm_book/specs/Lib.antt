@@ -1,11 +1,14 @@
 pub mod Answers
 pub mod Book
+pub mod JoinedLaws
 pub mod Journal
 pub mod Kept
 pub mod Laws
 pub mod Legal
+pub mod LegalJoined
 pub mod LegalLaws
 pub mod MarkLaws
+pub mod Marks
 pub mod OrderLaws
 pub mod Packet
 pub mod Pending
@@ -13,5 +16,7 @@ pub mod PlayLaws
 pub mod Plays
 pub mod Session
 pub mod StepLaws
+pub mod StepMarks
+pub mod TakenLaws
 pub mod Tape
 pub mod TickLaws

@@ -1,5 +1,5 @@
 -- The checkpoint is the least mark, whatever the session.
-use Rattle.std.proofs.Common.{ℕ, ◌≤◌, ◌<◌, true, false, List, [], ◌∷◌, inl, inr, arith}
+use Rattle.std.proofs.Common.{ℕ, ◌≤◌, ◌<◌, List, [], ◌∷◌, inl, inr, arith}
 use Rattle.std.specs.Prelude.{nat_lt}
 use Rattle.std.specs.List.{AllByRecursion}
 use Rattle.std.proofs.lemmas.Bool.{cases_Bool, ltb-true, ltb-false}

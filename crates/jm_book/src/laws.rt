@@ -1,7 +1,7 @@
 //! What holds of every session, over the definitions that this crate's contracts cite. Each law is the
 //! contract of a function that does nothing.
 
-ghost use Rattle.jm_book.specs.Laws.{PacketsInOrder, TicksInOrder, KeepsPlays, NumbersPlays, KeepsPlayersInOrder, CountsPlays, SendsEntries, TakesLegally, TookLegally, PassesNoMark};
+ghost use Rattle.jm_book.specs.Laws.{PacketsInOrder, TicksInOrder, KeepsPlays, NumbersPlays, KeepsPlayersInOrder, CountsPlays, SendsEntries, TakesLegally, TookLegally, PassesNoMark, NeverFalls, MarksSent, JoinsOnce, SharesNoSlot, FitsTape, CallsKeepLegal, ReportsAdvance, JoinsAtLast};
 
 /// Packet numbers never fall along the sent commands, nor along those and the pending ones.
 pub fn packets_in_order()
@@ -53,4 +53,45 @@ pub fn took_legally()
 /// The checkpoint passes no joined participant's mark.
 pub fn passes_no_mark()
     ensures { PassesNoMark }
+{}
+
+/// Along legal steps the checkpoint never falls.
+pub fn never_falls()
+    ensures { NeverFalls }
+{}
+
+/// After legal steps no mark is past the last sent packet, or 0 where none was sent.
+pub fn marks_sent()
+    ensures { MarksSent }
+{}
+
+/// After legal steps no SSRC is joined twice.
+pub fn joins_once()
+    ensures { JoinsOnce }
+{}
+
+/// After legal steps each joined participant has a slot of its own, one of 32.
+pub fn shares_no_slot()
+    ensures { SharesNoSlot }
+{}
+
+/// Legal steps are no more than the session was made for.
+pub fn fits_tape()
+    ensures { FitsTape }
+{}
+
+/// A call of a book that has legal steps leaves legal steps, where it takes a step just as it answers.
+pub fn calls_keep_legal()
+    ensures { CallsKeepLegal }
+{}
+
+/// A report that is taken moves the mark on to the sent packet whose low 16 bits it tells, less than
+/// half a round away, and moves no other mark.
+pub fn reports_advance()
+    ensures { ReportsAdvance }
+{}
+
+/// A joiner's mark is the last sent packet, or 0 where none was sent.
+pub fn joins_at_last()
+    ensures { JoinsAtLast }
 {}

@@ -1,4 +1,4 @@
-use Rattle.std.proofs.Common.{◌≡◌, ◌+◌, ◌-◌, ◌≤◌, map, sum}
+use Rattle.std.proofs.Common.{◌≡◌, ◌+◌, ◌≤◌, map, sum}
 use Rattle.jm_book.specs.Journal.{is_there, channels, channels_from}
 use Rattle.jm_book.proofs.journal.count_channels.Given as goal
 

@@ -1,4 +1,4 @@
-use Rattle.std.proofs.Common.{◌≡◌, ◌∙◌, sym, ◌+◌, arith}
+use Rattle.std.proofs.Common.{◌≡◌, ◌∙◌, sym, arith}
 use Rattle.jm_book.specs.Journal.{channels_from_more, channels_from_none}
 use Rattle.jm_book.proofs.journal.is_fresh.Goals as goal
 

@@ -1,4 +1,4 @@
-use Rattle.std.proofs.Common.{◌≡◌, ◌-◌}
+use Rattle.std.proofs.Common.{◌≡◌}
 use Rattle.std.specs.List.{list_any}
 use Rattle.ch_notes.specs.ChapterN.{fresh_n}
 use Rattle.jm_book.specs.Journal.{channels, channels_from}

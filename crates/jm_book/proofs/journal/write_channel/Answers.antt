@@ -1,4 +1,4 @@
-use Rattle.std.proofs.Common.{◌≡◌, ◌<◌, length, length-append, sym, ◌∙◌, arith, refl}
+use Rattle.std.proofs.Common.{◌≡◌, ◌<◌, length, sym, arith}
 use Rattle.jm_wire.specs.Octets.{joined, unchanged}
 use Rattle.ch_notes.specs.ChapterN.{chapter_n}
 use Rattle.jm_book.specs.Journal.{channel_journal_none, channel_journal_some}

@@ -1,4 +1,4 @@
-use Rattle.std.proofs.Common.{◌≡◌, ◌∙◌, sym, refl}
+use Rattle.std.proofs.Common.{◌∙◌, sym}
 use Rattle.jm_book.specs.Session.{session_of, tick_after}
 use Rattle.jm_book.proofs.Listing.{packet_tick_is}
 use Rattle.jm_book.proofs.book.Book.next_span.Goals as goal

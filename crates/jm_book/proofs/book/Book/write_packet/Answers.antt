@@ -1,4 +1,4 @@
-use Rattle.std.proofs.Common.{false, arith}
+use Rattle.std.proofs.Common.{arith}
 use Rattle.jm_wire.specs.Octets.{joined}
 use Rattle.jm_book.specs.Packet.{packet_of}
 use Rattle.jm_book.proofs.Listing.{length_section_header}
