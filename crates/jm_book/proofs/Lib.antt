@@ -1,4 +1,4 @@
 pub mod Listing
 pub mod OneMore
-pub mod Tests
+pub mod Outcomes
 pub mod Weaving

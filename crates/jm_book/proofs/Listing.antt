@@ -3,7 +3,7 @@ use Rattle.std.proofs.Common.{ℕ, ◌≡◌, ◌+◌, ◌-◌, ◌<◌, ◌≤�
 use Rattle.std.proofs.lemmas.List.{append-nil}
 use Rattle.std.proofs.lemmas.Bool.Decides.{nat_tests}
 use Rattle.std.specs.Prelude.{nat_lt}
-use Rattle.jm_book.proofs.Tests.{and_true}
+use Rattle.jm_book.proofs.Outcomes.{and_true}
 use Rattle.jm_cmds.specs.declared.history.Sent.{Sent}
 use Rattle.jm_section.specs.declared.next.Place.{Place}
 use Rattle.jm_section.specs.declared.next.Place.TheVariants.{First}

@@ -18,7 +18,7 @@ use Rattle.jm_book.specs.Pending.{timed_of, last_tick}
 use Rattle.jm_book.specs.Session.{sent_of, pending_of, tick_after, packet_tick}
 use Rattle.std.proofs.lemmas.List.{append-nil}
 use Rattle.jm_book.specs.Answers.{needs_cut, list_with, delta_with}
-use Rattle.jm_book.proofs.Tests.{or_false}
+use Rattle.jm_book.proofs.Outcomes.{or_false}
 pub use Rattle.jm_book.specs.StepLaws.{session_push, pending_push, sent_cut}
 use Rattle.jm_book.proofs.Listing.{last_tick_push, timed_of_push, place_through_push, have_fields_push}
 

@@ -2,7 +2,7 @@ use Rattle.std.proofs.Common.{◌∙◌, sym, ◌<◌, length, arith}
 use Rattle.std.proofs.lemmas.Bool.Decides.{nat_tests}
 use Rattle.jm_book.specs.Session.{session_of}
 use Rattle.jm_book.specs.Answers.{is_known, is_full, needs_cut}
-use Rattle.jm_book.proofs.Tests.{none_came}
+use Rattle.jm_book.proofs.Outcomes.{none_came}
 use Rattle.jm_book.proofs.OneMore.{kept_play}
 use Rattle.jm_book.proofs.book.Book.play.Goals as goal
 
