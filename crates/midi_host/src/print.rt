@@ -28,7 +28,12 @@ pub fn add_hex(out: &mut Vec<u8>, octets: &[u8], alloc: Global) -> Result<(), Al
 }
 
 /// Adds a number between two texts.
-pub fn add_numbered(out: &mut Vec<u8>, before: &[u8], n: u64, after: &[u8]) -> Result<(), AllocError>
+pub fn add_numbered(
+    out: &mut Vec<u8>,
+    before: &[u8],
+    n: u64,
+    after: &[u8],
+) -> Result<(), AllocError>
     ensures { OnOk result (out.new.items ≡ out.old.items ++ (before.now ++ decimal n ++ after.now)) }
 {
     out.extend_from_slice(before)?;

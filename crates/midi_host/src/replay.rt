@@ -177,10 +177,7 @@ fn start(
     let book = Book::new(Config { ssrc, events }, alloc)?;
     let room = PacketRoom::new(alloc)?;
     out.extend_from_slice(b"session\n")?;
-    replay.session = Some(Started {
-        book,
-        room,
-    });
+    replay.session = Some(Started { book, room });
     Ok(Heard::Taken)
 }
 

@@ -71,15 +71,16 @@ fn faults_have_their_statuses(rt: HostRuntime) -> Result<(), Fail> {
 }
 
 /// Commands and a section, and octets that are none.
-const OCTETS: &[u8] = b"command 903c80\ncommand 903c\ncommand 3c\ncommand f4\ncommand f0010203f700\nsection 08903c6400f8003c00\nsection 04f00100f4\nsection 09903c6400f100003c00\nsection 05903c648080\nsection 06903c6400b080\npacket 80\n";
+const OCTETS: &[u8] =
+    b"command 903c80\ncommand 903c\ncommand 3c\ncommand f4\ncommand f0010203f700\nsection 08903c6400f8003c00\nsection 04f00100f4\nsection 09903c6400f100003c00\nsection 05903c648080\nsection 06903c6400b080\npacket 80\n";
 
 #[test]
 fn octets_are_read(rt: HostRuntime) -> Result<(), Fail> {
     let text =
         b"fault bad-data 2\nfault short\nfault data-octet\nfault bad-status 244\ncommand 5 f0010203f7\nsection 3 0:903c64 0:f8 0:903c00\nsection 1 0:part-cancel-2\nfault no-status 8\nfault bad-delta 4\nfault bad-command 5 bad-data 1\nbad-script 11 word\n";
     let words = [Word::new("read", rt.alloc())?];
-    let mut source = MemSource::new(OCTETS, &[], rt.alloc())?;
-    let mut sink = MemSink::new(512, &[], rt.alloc())?;
+    let mut source = MemSource::new(rt.alloc(), OCTETS, &[])?;
+    let mut sink = MemSink::new(rt.alloc(), 512, &[])?;
     assert_eq!(rt;
         run(&words, &mut source, &mut sink, rt.alloc()),
         Status::BadScript
