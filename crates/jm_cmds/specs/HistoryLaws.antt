@@ -1,5 +1,5 @@
 -- What holds of every history, whatever ends what.
-use Rattle.std.proofs.Common.{◌≡◌, ℕ, zero, suc, ◌+◌, ◌≤◌, ◌<◌, Bool, true, false, not, cond, List, [], ◌∷◌, ◌++◌, ltb, leb, eqb, fold, refl, ap, sym, ◌∙◌, arith, inl, inr, take, drop, length, append-nil}
+use Rattle.std.proofs.Common.{◌≡◌, ℕ, zero, suc, ◌+◌, ◌≤◌, ◌<◌, Bool, true, false, not, cond, ◌||◌, List, [], ◌∷◌, ◌++◌, ltb, leb, eqb, fold, refl, ap, sym, ◌∙◌, arith, inl, inr, take, drop, length, append-nil}
 use Rattle.std.specs.List.{flat_map, list_any, AllByRecursion, filter, AllWithin}
 use Rattle.std.proofs.lemmas.Bool.{cases_Bool, ltb-true, ltb-false, leb-true, le-leb, lt-leb, or_parts}
 use Rattle.std.proofs.lemmas.Bool.Decides.{nat_tests}
@@ -35,6 +35,15 @@ filter-filter p q weaker (x ∷ xs) =
     true_not_false : (b : Bool) → b ≡ true → b ≡ false → ⊥
     true_not_false b t f = cc
 
+pub filter-swap : {X : Type 0} (p q : X → Bool) (xs : List X) → filter p (filter q xs) ≡ filter q (filter p xs)
+filter-swap p q [] = refl
+filter-swap p q (x ∷ xs) =
+    let ih = filter-swap p q xs in
+    elim (cases_Bool (p x)) [
+      | inl t ↦ elim (cases_Bool (q x)) [ inl a ↦ rw (t, a, t) (ap (λ l. x ∷ l) ih) | inr b ↦ rw (t, b) ih ]
+      | inr f ↦ elim (cases_Bool (q x)) [ inl a ↦ rw (f, a, f) ih | inr b ↦ rw (f, b) ih ]
+    ]
+
 pub AllByRecursion-filter : {X : Type 0} (P : X → Type 0) (p : X → Bool) (xs : List X) → AllByRecursion P xs → AllByRecursion P (filter p xs)
 AllByRecursion-filter P p [] h = tt
 AllByRecursion-filter P p (x ∷ xs) h =
@@ -44,6 +53,10 @@ AllByRecursion-filter P p (x ∷ xs) h =
 pub AllByRecursion-weaker : {X : Type 0} (P Q : X → Type 0) → ((x : X) → P x → Q x) → (xs : List X) → AllByRecursion P xs → AllByRecursion Q xs
 AllByRecursion-weaker P Q w [] h = tt
 AllByRecursion-weaker P Q w (x ∷ xs) h = (w x h.0, AllByRecursion-weaker P Q w xs h.1)
+
+pub AllByRecursion-append : {X : Type 0} (P : X → Type 0) (xs ys : List X) → AllByRecursion P xs → AllByRecursion P ys → AllByRecursion P (xs ++ ys)
+AllByRecursion-append P [] ys a b = b
+AllByRecursion-append P (x ∷ xs) ys a b = (a.0, AllByRecursion-append P xs ys a.1 b)
 
 -- ## The places that stand
 
@@ -102,6 +115,13 @@ InOrder-filter at p (x ∷ xs) h =
       | inl t ↦ rw t (AllByRecursion-filter (λ y. at x ≤ at y) p xs h.0, ih)
       | inr f ↦ rw f ih
     ]
+
+-- two lists in order, where a number divides them
+pub InOrder-append : {X : Type 0} (at : X → ℕ) (between : ℕ) (xs ys : List X) → InOrder at xs → AllByRecursion (λ x. at x ≤ between) xs → AllByRecursion (λ y. between ≤ at y) ys → InOrder at ys → InOrder at (xs ++ ys)
+InOrder-append at between [] ys front below above back = back
+InOrder-append at between (x ∷ xs) ys front below above back =
+    let after_x = AllByRecursion-weaker (λ y. between ≤ at y) (λ y. at x ≤ at y) (λ y l. omega (arith, below.0)) ys above in
+    (AllByRecursion-append (λ y. at x ≤ at y) xs ys front.0 after_x, InOrder-append at between xs ys front.1 below.1 above back)
 
 -- the places that stand are in the order of their packets, or of any other number: oldest first
 pub InOrder-standing : {X : Type 0} (at : X → ℕ) (ends : X → X → Bool) (xs : List X) → InOrder at xs → InOrder at (standing ends xs)
@@ -223,7 +243,45 @@ pub flat_map-standing : {X Y : Type 0} (ends : X → X → Bool) (text : X → L
 flat_map-standing ends text x xs =
     elim (cases_Bool (list_any (ends x) xs)) [ inl t ↦ rw t refl | inr f ↦ rw f refl ]
 
+-- ## One place more of what is coded
+
+-- a place is passed over where a later one ends it, or where it is older than the checkpoint
+pub flat_map-coded : {X Y : Type 0} (ends : X → X → Bool) (at : X → ℕ) (from : ℕ) (text : X → List Y) (x : X) (xs : List X) → flat_map text (coded ends at from (x ∷ xs)) ≡ cond (list_any (ends x) xs) [] (cond (leb from (at x)) (text x) []) ++ flat_map text (coded ends at from xs)
+flat_map-coded ends at from text x xs =
+    elim (cases_Bool (list_any (ends x) xs)) [
+      | inl t ↦ rw t refl
+      | inr f ↦ elim (cases_Bool (leb from (at x))) [ inl l ↦ rw (f, l) refl | inr n ↦ rw (f, n) refl ]
+    ]
+
+pub fold-coded : {S X : Type 0} (ends : X → X → Bool) (at : X → ℕ) (from : ℕ) (step : S → X → S) (s : S) (x : X) (xs : List X) → fold step s (coded ends at from (x ∷ xs)) ≡ fold step (cond (list_any (ends x) xs) s (cond (leb from (at x)) (step s x) s)) (coded ends at from xs)
+fold-coded ends at from step s x xs =
+    elim (cases_Bool (list_any (ends x) xs)) [
+      | inl t ↦ rw t refl
+      | inr f ↦ elim (cases_Bool (leb from (at x))) [ inl l ↦ rw (f, l) refl | inr n ↦ rw (f, n) refl ]
+    ]
+
+pub any-coded : {X : Type 0} (ends : X → X → Bool) (at : X → ℕ) (from : ℕ) (test : X → Bool) (x : X) (xs : List X) → list_any test (coded ends at from (x ∷ xs)) ≡ cond (list_any (ends x) xs) false (cond (leb from (at x)) (test x) false) || list_any test (coded ends at from xs)
+any-coded ends at from test x xs =
+    elim (cases_Bool (list_any (ends x) xs)) [
+      | inl t ↦ rw t refl
+      | inr f ↦ elim (cases_Bool (leb from (at x))) [ inl l ↦ rw (f, l) refl | inr n ↦ rw (f, n) refl ]
+    ]
+
+-- One more command: what it ends is no longer coded, and it is coded itself.
+pub coded-push : {X : Type 0} (ends : X → X → Bool) (at : X → ℕ) (from : ℕ) (xs : List X) (y : X) → from ≤ at y → coded ends at from (xs ++ y ∷ []) ≡ filter (λ x. not (ends x y)) (coded ends at from xs) ++ y ∷ []
+coded-push ends at from xs y l =
+    let late : _ → Bool = λ x. leb from (at x) in
+    let left : _ → Bool = λ x. not (ends x y) in
+    ap (filter late) (standing-push ends xs y)
+    ∙ filter-append late (filter left (standing ends xs)) (y ∷ [])
+    ∙ rw (le-leb from (at y) l) (ap (λ (k : List _). k ++ y ∷ []) (filter-swap late left (standing ends xs)))
+
 -- ## States along a history
+
+-- a test that looks at the places alone
+pub any-scanned : {S X : Type 0} (step : S → X → S) (test : X → Bool) (s : S) (xs : List X) → list_any (λ p. test p.1) (scanned step s xs) ≡ list_any test xs
+any-scanned step test s [] = refl
+any-scanned step test s (x ∷ xs) = ap (λ b. test x || b) (any-scanned step test (step s x) xs)
 
 pub scanned-push : {S X : Type 0} (step : S → X → S) (s : S) (xs : List X) (y : X) → scanned step s (xs ++ y ∷ []) ≡ scanned step s xs ++ (fold step s xs, y) ∷ []
 scanned-push step s [] y = refl

@@ -1,5 +1,5 @@
 -- What the laws of this crate say.
-use Rattle.std.specs.Prelude.{◌≡◌, ℕ, ◌+◌, ◌≤◌, Bool, not, List, [], ◌∷◌, ◌++◌, length, filter, Ok}
+use Rattle.std.specs.Prelude.{◌≡◌, ℕ, ◌+◌, ◌≤◌, Bool, not, true, List, [], ◌∷◌, ◌++◌, length, filter, Option, Some, sum_by, Ok}
 use Rattle.jm_cmds.specs.declared.commands.Command.{Command}
 use Rattle.jm_cmds.specs.declared.history.Sent.{Sent}
 use Rattle.jm_cmds.specs.Command.{spelling, IsCommand}
@@ -8,6 +8,7 @@ use Rattle.jm_cmds.specs.CommandLaws.{BeginsWith}
 use Rattle.jm_cmds.specs.Reading.{command_read}
 use Rattle.jm_cmds.specs.History.{standing, since, below, within, coded, InOrder, Unended}
 use Rattle.jm_cmds.specs.Sent.{packet_of}
+use Rattle.jm_cmds.specs.Keys.{EndsKey, key_count, has_key}
 
 -- Each command has one spelling, and no spelling is a prefix of another command's.
 abbrev pub OneSpelling : Type 0
@@ -46,6 +47,21 @@ CodesDistinct = (ends : Sent → Sent → Bool) (checkpoint : ℕ) (sent : List 
 -- the history.
 abbrev pub CodesInOrder : Type 0
 CodesInOrder = (number_of : Sent → ℕ) (ends : Sent → Sent → Bool) (checkpoint : ℕ) (sent : List Sent) → InOrder number_of sent → InOrder number_of (coded ends packet_of checkpoint sent)
+
+-- Of places whose later ones with the same key end them, one more command makes the coded ones at most one more, none
+-- more where its key is coded; weights grow by its own at most; and a greater checkpoint makes neither greater.
+pub record CodesFew : Type 0 where
+  pub one_more : (ends : Sent → Sent → Bool) (key : Sent → Option ℕ) (checkpoint : ℕ) (sent : List Sent) (last : Sent) → checkpoint ≤ packet_of last
+      → key_count key (coded ends packet_of checkpoint (sent ++ last ∷ [])) ≤ key_count key (coded ends packet_of checkpoint sent) + 1
+  pub none_more : (ends : Sent → Sent → Bool) (key : Sent → Option ℕ) → EndsKey ends key → (checkpoint : ℕ) (sent : List Sent) (last : Sent) (k : ℕ) → checkpoint ≤ packet_of last
+      → key last ≡ Some k → has_key key k (coded ends packet_of checkpoint sent) ≡ true
+      → key_count key (coded ends packet_of checkpoint (sent ++ last ∷ [])) ≤ key_count key (coded ends packet_of checkpoint sent)
+  pub fewer : (ends : Sent → Sent → Bool) (key : Sent → Option ℕ) (checkpoint later : ℕ) (sent : List Sent) → checkpoint ≤ later
+      → key_count key (coded ends packet_of later sent) ≤ key_count key (coded ends packet_of checkpoint sent)
+  pub weight : (ends : Sent → Sent → Bool) (weight_of : Sent → ℕ) (checkpoint : ℕ) (sent : List Sent) (last : Sent) → checkpoint ≤ packet_of last
+      → sum_by weight_of (coded ends packet_of checkpoint (sent ++ last ∷ [])) ≤ sum_by weight_of (coded ends packet_of checkpoint sent) + weight_of last
+  pub lighter : (ends : Sent → Sent → Bool) (weight_of : Sent → ℕ) (checkpoint later : ℕ) (sent : List Sent) → checkpoint ≤ later
+      → sum_by weight_of (coded ends packet_of later sent) ≤ sum_by weight_of (coded ends packet_of checkpoint sent)
 
 -- The kind of a controller tells its number.
 abbrev pub KindTellsNumber : Type 0

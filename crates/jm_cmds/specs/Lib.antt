@@ -9,6 +9,7 @@ pub mod Spelled
 pub mod Reading
 pub mod History
 pub mod HistoryLaws
+pub mod Keys
 pub mod Sent
 pub mod CommandLaws
 pub mod Laws

@@ -12,10 +12,14 @@ tick_of sent = sent.tick
 abbrev pub is_fresh : ℕ → Sent → Bool
 is_fresh packet sent = sent.packet + 1 == packet
 
+-- An S bit as the high bit of an octet: 0 where something that it speaks of is of the packet before.
+abbrev pub s_of : Bool → ℕ
+s_of fresh = if fresh then 0 else 128
+
 -- The S bit of its log in this packet's journal, as the high bit of an octet: 0 where the command went
 -- out in the packet before (RFC 6295, A.1).
 abbrev pub s_bit : ℕ → Sent → ℕ
-s_bit packet sent = if is_fresh packet sent then 0 else 128
+s_bit packet sent = s_of (is_fresh packet sent)
 
 -- whether the first of these, if there is one, is in this packet or a later one
 abbrev pub first_from : ℕ → List Sent → Bool

@@ -2,7 +2,7 @@
 
 ghost use Rattle.std.specs.Prelude.{◌≡◌, ◌≤◌, ◌↔◌, IsTrue, Bool, [], ◌∷◌, MatchOption, length, take, drop};
 ghost use Rattle.jm_cmds.specs.History.{InOrder, below, since, standing, coded};
-ghost use Rattle.jm_cmds.specs.Sent.{packet_of, is_fresh, s_bit, first_from};
+ghost use Rattle.jm_cmds.specs.Sent.{packet_of, is_fresh, s_of, s_bit, first_from};
 
 use crate::commands::Command;
 
@@ -31,8 +31,17 @@ impl Sent {
         ensures bit { result ≡ s_bit packet self.now }
         ensures bound { result ≤ 128 }
     {
-        if self.is_fresh(packet) { 0 } else { 128 }
+        s_of(self.is_fresh(packet))
     }
+}
+
+/// An S bit as the high bit of an octet: 0 where something that it speaks of went out in the packet
+/// before, else 128 (RFC 6295, A.1).
+pub fn s_of(fresh: bool) -> u8
+    ensures bit { result ≡ s_of fresh }
+    ensures bound { result ≤ 128 }
+{
+    if fresh { 0 } else { 128 }
 }
 
 /// The first place and those after it, or `None` where there is no place.

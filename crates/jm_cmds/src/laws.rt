@@ -1,7 +1,7 @@
 //! What holds of the definitions that this crate's contracts cite. Each law is the contract of a
 //! function that does nothing.
 
-ghost use Rattle.jm_cmds.specs.Laws.{OneSpelling, ReadsSpelled, ReadsOnlySpelled, StandsLast, CodesRecent, CodesLess, CodesFresh, CodesDistinct, CodesInOrder, KindTellsNumber};
+ghost use Rattle.jm_cmds.specs.Laws.{OneSpelling, ReadsSpelled, ReadsOnlySpelled, StandsLast, CodesRecent, CodesLess, CodesFresh, CodesDistinct, CodesInOrder, CodesFew, KindTellsNumber};
 
 /// Octets begin with at most one command, so a command is told by its octets, whatever follows.
 pub fn one_spelling()
@@ -46,6 +46,11 @@ pub fn codes_distinct()
 /// Coded places stand oldest first.
 pub fn codes_in_order()
     ensures { CodesInOrder }
+{}
+
+/// How coded places are counted and weighed as commands are sent and the checkpoint grows.
+pub fn codes_few()
+    ensures { CodesFew }
 {}
 
 /// No two controllers have the same kind with the same number.

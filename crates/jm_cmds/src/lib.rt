@@ -17,7 +17,9 @@ mod system_exclusive;
 
 pub use commands::{Command, Spelled};
 pub use controls::ControlKind;
-pub use history::{Sent, checkpoint_history, first_place, in_order, place_of, session_history};
+pub use history::{
+    Sent, checkpoint_history, first_place, in_order, place_of, s_of, session_history,
+};
 pub use numbers::{Channel, D7, D14};
 pub use outcome::ReadError;
 pub use reading::{CmdFault, read_command};

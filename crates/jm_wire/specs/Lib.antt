@@ -3,3 +3,5 @@ pub mod Delta
 pub mod DeltaReading
 pub mod DeltaWriting
 pub mod Numbers
+pub mod Heads
+pub mod HeadLaws
