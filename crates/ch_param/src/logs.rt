@@ -133,12 +133,11 @@ pub(crate) fn is_fresh(history: &[Sent], channel: Channel, from: u64, packet: u6
 }
 
 /// The number of octets of all logs.
-pub(crate) fn logs_len(history: &[Sent], channel: Channel, from: u64, packet: u64) -> usize
-    requires few { length (entered channel from (session_places channel history.now)) ≤ 16 }
-    ensures number { result ≡ length (param_logs channel from packet (session_places channel history.now)) }
+pub(crate) fn logs_len(history: &[Sent], channel: Channel, from: u64) -> usize
+    requires { length (entered channel from (session_places channel history.now)) ≤ 16 }
+    ensures number { (packet : ℕ) → result ≡ length (param_logs channel from packet (session_places channel history.now)) }
     ensures bound { result ≤ 80 }
 {
-    let _ = packet;
     let mut len = 0;
     let mut selection = Selection::none();
     let mut rest = history;

@@ -43,7 +43,7 @@ pub fn plain_len(list: &[Sent], channel: Channel, from: u64, packet: u64, tick: 
     ensures bound { result ≤ 82 }
 {
     let _ = tick;
-    let logs = logs_len(session_history(list, packet), channel, from, packet);
+    let logs = logs_len(session_history(list, packet), channel, from);
     if logs == 0 { 0 } else { 2 + logs }
 }
 
@@ -65,7 +65,7 @@ pub fn plain_write(
 {
     let _ = tick;
     let history = session_history(list, packet);
-    let logs = logs_len(history, channel, from, packet);
+    let logs = logs_len(history, channel, from);
     if logs > 0 {
         write_head(is_fresh(history, channel, from, packet), logs, out);
         write_logs(history, channel, from, packet, out);
