@@ -1,4 +1,4 @@
--- Chapter M of a channel (RFC 6295, A.4.1, Figure A.4.1, and A.4.2, Figure A.4.2).
+-- Chapter M of a channel (RFC 6295, A.4, Figure A.4.1, and A.4.2, Figures A.4.2 to A.4.4).
 use Rattle.std.specs.Prelude.{ℕ, ◌+◌, ◌*◌, Bool, true, false, not, ◌&&◌, List, [], ◌∷◌, ◌++◌, Option, Some, None, length, fold, is_some, nat_lt, ◌==◌, if◌then◌else◌, option_map, option_to_list}
 use Rattle.std.proofs.Math.Bool.{beq}
 use Rattle.std.specs.List.{list_any, flat_map, filter_map}

@@ -7,4 +7,6 @@ pub mod WalkLaws
 pub mod HalfLaws
 pub mod LogLaws
 pub mod FreshLaws
+pub mod Later
+pub mod LaterLaws
 pub mod Limits

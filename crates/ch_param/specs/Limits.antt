@@ -11,8 +11,9 @@ use Rattle.jm_cmds.specs.declared.controls.ControlKind.TheVariants.{DataEntry}
 use Rattle.jm_cmds.specs.declared.history.Sent.{Sent}
 use Rattle.jm_cmds.specs.Control.{control_kind, control_number, is_reset}
 use Rattle.jm_cmds.specs.ControlLaws.{control_number-control_kind}
-use Rattle.jm_cmds.specs.History.{coded}
+use Rattle.jm_cmds.specs.History.{coded, below}
 use Rattle.jm_cmds.specs.HistoryLaws.{coded-push, coded-later, scanned-push}
+use Rattle.jm_cmds.specs.Sent.{packet_of}
 use Rattle.ch_param.specs.declared.param.Param.{Param}
 use Rattle.ch_param.specs.declared.selection.ParamCommand.{ParamCommand}
 use Rattle.ch_param.specs.declared.selection.ParamCommand.TheVariants.{Select, Enter, Unselect, Clear, Pass}
@@ -22,8 +23,9 @@ use Rattle.ch_param.specs.declared.events.ParamEvent.TheVariants.{Entry, Cleared
 use Rattle.ch_param.specs.Param.{same_param}
 use Rattle.ch_param.specs.Selection.{no_selection, param_command, control_command, selected_param, is_data_entry}
 use Rattle.ch_param.specs.Event.{Place, selection_step, packet_at, event_at, entry, param_event, takes_param, param_event_ends, param_ends}
-use Rattle.ch_param.specs.ChapterM.{Entered, entered, entered_at, entered_by, event_param, session_places, param_count, has_param, param_parts, selected}
+use Rattle.ch_param.specs.ChapterM.{Entered, entered, entered_at, entered_by, event_param, session_places, param_logs, fresh_among, chapter_of, chapter_m, param_count, has_param, param_parts, selected}
 use Rattle.ch_param.specs.HalfLaws.{same_param-equal}
+use Rattle.ch_param.specs.LogLaws.{logs_short}
 
 -- ## Lists of which some items are kept
 
@@ -213,3 +215,21 @@ param_count-later channel from later sent l =
     let places = session_places channel sent in
     let less = filter_shorter (entered_at channel) (λ x. leb later (packet_at x)) (coded (param_ends channel) packet_at from places) in
     rw (coded-later (param_ends channel) packet_at from later places l) at less
+
+pub param_count-none : (channel from : ℕ) → param_count channel from [] ≡ 0
+unfolding param_count
+param_count-none channel from = refl
+
+-- ## The chapter's length
+
+-- two octets of the header, and five of each log
+pub length-chapter_m-le : (channel from packet : ℕ) (sent : List Sent) → param_count channel from (below packet_of packet sent) ≤ 16 → length (chapter_m channel from packet sent) ≤ 82
+unfolding param_count chapter_m
+length-chapter_m-le channel from packet sent few =
+    let places = session_places channel (below packet_of packet sent) in
+    let params = entered channel from places in
+    let short = logs_short channel from packet places params in
+    short_chapter (fresh_among packet params) (param_logs channel from packet places) (omega (arith, short, few))
+  where
+    short_chapter : (fresh : Bool) (logs : List ℕ) → length logs ≤ 80 → length (chapter_of fresh logs) ≤ 82
+    short_chapter fresh logs l = elim (cases_Bool (eqb (length logs) 0)) [ inl t ↦ rw t (omega arith) | inr f ↦ rw f (omega (arith, l)) ]

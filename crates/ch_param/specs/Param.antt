@@ -1,4 +1,4 @@
--- Parameters by their kind and number (RFC 6295, A.4).
+-- Parameters by their kind and number (RFC 6295, A.1).
 use Rattle.std.specs.Prelude.{ℕ, Bool, ◌&&◌, Option, Some, None, ◌==◌, if◌then◌else◌}
 use Rattle.std.proofs.Math.Bool.{beq}
 use Rattle.ch_param.specs.declared.param.Param.{Param}

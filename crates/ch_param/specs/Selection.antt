@@ -1,4 +1,4 @@
--- The selection of a parameter in a channel (RFC 6295, A.4): a fold over the session's commands.
+-- The selection of a parameter in a channel (RFC 6295, A.1 and A.3.4): a fold over the session's commands.
 use Rattle.std.specs.Prelude.{ℕ, Bool, true, false, ◌&&◌, ◌||◌, List, Option, Some, None, ◌==◌, if◌then◌else◌}
 use Rattle.jm_cmds.specs.declared.commands.Command.{Command}
 use Rattle.jm_cmds.specs.declared.commands.Command.TheVariants.{Control}

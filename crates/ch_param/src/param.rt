@@ -15,7 +15,7 @@ pub struct Param {
 
 impl Param {
     /// The parameter with these halves of its number: none where one of them is missing, or where both are
-    /// 127 (RFC 6295, A.4: the null parameter).
+    /// 127 (RFC 6295, A.1: the null parameter).
     pub fn of(nrpn: bool, high: Option<D7>, low: Option<D7>) -> Option<Param>
         ensures { result ≡ param_of nrpn high low }
     {

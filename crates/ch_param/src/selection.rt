@@ -53,7 +53,7 @@ pub fn param_command(command: &Command, channel: Channel) -> ParamCommand
 }
 
 /// The halves of parameter numbers that a channel was last sent, and the kind of the last of them (RFC 6295,
-/// A.4 and A.3.4). It is set back by a Reset State command and by Control 121.
+/// A.1 and A.3.4). It is set back by a Reset State command and by Control 121.
 #[derive(Clone, Copy, PartialEq, Eq, Debug)]
 pub struct Selection {
     /// Whether the last half was of a non-registered parameter.
