@@ -1,5 +1,5 @@
 -- Chapter M of a channel (RFC 6295, A.4, Figure A.4.1, and A.4.2, Figures A.4.2 to A.4.4).
-use Rattle.std.specs.Prelude.{ℕ, ◌+◌, ◌*◌, Bool, true, false, not, ◌&&◌, List, [], ◌∷◌, ◌++◌, Option, Some, None, length, fold, is_some, nat_lt, ◌==◌, if◌then◌else◌, option_map, option_to_list}
+use Rattle.std.specs.Prelude.{ℕ, ◌+◌, ◌*◌, Bool, true, false, not, ◌&&◌, List, [], ◌∷◌, ◌++◌, Option, Some, None, length, fold, is_some, ◌==◌, if◌then◌else◌, option_to_list}
 use Rattle.std.proofs.Math.Bool.{beq}
 use Rattle.std.specs.List.{list_any, flat_map, filter_map}
 use Rattle.jm_wire.specs.declared.heads.ParamHead.{ParamHead}
@@ -8,7 +8,6 @@ use Rattle.jm_cmds.specs.declared.history.Sent.{Sent}
 use Rattle.jm_cmds.specs.History.{coded, below}
 use Rattle.jm_cmds.specs.Sent.{packet_of, is_fresh, s_bit}
 use Rattle.ch_param.specs.declared.param.Param.{Param}
-use Rattle.ch_param.specs.declared.selection.Selection.{Selection}
 use Rattle.ch_param.specs.declared.events.ParamEvent.{ParamEvent}
 use Rattle.ch_param.specs.declared.events.ParamEvent.TheVariants.{Entry, Cleared, Other}
 use Rattle.ch_param.specs.Param.{same_param}

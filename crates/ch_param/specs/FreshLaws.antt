@@ -1,13 +1,13 @@
 -- A chapter shows what the packet before brought.
-use Rattle.std.proofs.Common.{◌≡◌, ℕ, zero, suc, ◌+◌, ◌*◌, ◌/◌, ◌≤◌, ◌<◌, Bool, true, false, not, cond, ◌||◌, eqb, ltb, List, [], ◌∷◌, ◌++◌, length, refl, sym, ap, ◌∙◌, arith, inl, inr}
-use Rattle.std.specs.List.{list_any, flat_map}
+use Rattle.std.proofs.Common.{◌≡◌, ℕ, ◌+◌, ◌*◌, ◌/◌, ◌≤◌, Bool, true, false, not, eqb, ltb, List, [], ◌∷◌, length, refl, sym, arith, inl, inr}
+use Rattle.std.specs.List.{flat_map}
 use Rattle.std.proofs.lemmas.Bool.{cases_Bool, lt-ltb, le-ltb, eqb-true}
-use Rattle.jm_wire.specs.Heads.{bit, param_octets}
+use Rattle.jm_wire.specs.Heads.{bit}
 use Rattle.jm_cmds.specs.declared.history.Sent.{Sent}
 use Rattle.jm_cmds.specs.History.{below}
-use Rattle.jm_cmds.specs.Sent.{packet_of, is_fresh}
+use Rattle.jm_cmds.specs.Sent.{packet_of}
 use Rattle.ch_param.specs.Event.{Place}
-use Rattle.ch_param.specs.ChapterM.{Entered, entered, entered_log, fresh_among, param_head, param_logs, chapter_of, session_places, chapter_m, fresh_m, param_count}
+use Rattle.ch_param.specs.ChapterM.{Entered, entered, entered_log, fresh_among, param_logs, chapter_of, session_places, chapter_m, fresh_m, param_count}
 use Rattle.ch_param.specs.LogLaws.{logs_short}
 use Rattle.ch_param.specs.Fresh.{shows_fresh}
 

@@ -1,5 +1,5 @@
 -- The latest entry of a parameter is the later of its coded halves.
-use Rattle.std.proofs.Common.{◌≡◌, ℕ, ◌≤◌, Bool, true, false, cond, ◌&&◌, ◌||◌, List, [], ◌∷◌, refl, sym, ap, ◌∙◌, inl, inr}
+use Rattle.std.proofs.Common.{◌≡◌, ℕ, ◌≤◌, Bool, true, cond, ◌||◌, List, [], ◌∷◌, refl, sym, ap, ◌∙◌, inl, inr}
 use Rattle.std.proofs.Math.Bool.{beq}
 use Rattle.std.specs.List.{list_any, filter_map, AllByRecursion}
 use Rattle.std.proofs.lemmas.Bool.{cases_Bool, or_cases, and_parts}
@@ -7,13 +7,12 @@ use Rattle.jm_cmds.specs.declared.history.Sent.{Sent}
 use Rattle.jm_cmds.specs.History.{InOrder, standing, since, coded, scanned}
 use Rattle.jm_cmds.specs.HistoryLaws.{InOrder-standing, since-standing}
 use Rattle.jm_cmds.specs.Sent.{packet_of}
-use Rattle.ch_param.specs.declared.param.Param.{Param}
 use Rattle.ch_param.specs.declared.selection.Selection.{Selection}
 use Rattle.ch_param.specs.declared.events.ParamEvent.{ParamEvent}
 use Rattle.ch_param.specs.declared.events.ParamEvent.TheVariants.{Entry, Cleared, Other}
 use Rattle.ch_param.specs.Param.{same_param}
-use Rattle.ch_param.specs.Event.{Place, placed, selection_step, packet_at, event_at, takes_param, param_event_ends, half_event_ends, param_ends, half_ends}
-use Rattle.ch_param.specs.ChapterM.{entered, entered_at, session_places}
+use Rattle.ch_param.specs.Event.{Place, placed, selection_step, packet_at, event_at, param_event_ends, half_event_ends, param_ends, half_ends}
+use Rattle.ch_param.specs.ChapterM.{entered, entered_at}
 use Rattle.ch_param.specs.HalfLaws.{same_param-equal}
 
 -- ## Two notions of what ends what, the first of which ends less

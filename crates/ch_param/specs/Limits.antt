@@ -1,6 +1,5 @@
 -- How many parameters are coded, when a command is sent or the checkpoint goes on.
-use Rattle.std.proofs.Common.{◌≡◌, ℕ, ◌+◌, ◌≤◌, Bool, true, false, not, cond, ◌&&◌, ◌||◌, eqb, leb, ◌⊎◌, List, [], ◌∷◌, ◌++◌, Option, Some, None, fold, length, refl, sym, ap, ◌∙◌, arith, inl, inr, length-append}
-use Rattle.std.proofs.Math.Bool.{beq}
+use Rattle.std.proofs.Common.{◌≡◌, ℕ, ◌+◌, ◌≤◌, Bool, true, false, not, cond, ◌||◌, eqb, leb, ◌⊎◌, List, [], ◌∷◌, ◌++◌, Option, Some, None, fold, length, refl, sym, ap, ◌∙◌, arith, inl, inr, length-append}
 use Rattle.std.specs.List.{list_any, filter, filter_map, cons_option}
 use Rattle.std.proofs.lemmas.Bool.{cases_Bool, or_cases, or_parts, eqb-false}
 use Rattle.std.proofs.lemmas.List.Elements.{filter_map-append}
@@ -16,13 +15,13 @@ use Rattle.jm_cmds.specs.HistoryLaws.{coded-push, coded-later, scanned-push}
 use Rattle.jm_cmds.specs.Sent.{packet_of}
 use Rattle.ch_param.specs.declared.param.Param.{Param}
 use Rattle.ch_param.specs.declared.selection.ParamCommand.{ParamCommand}
-use Rattle.ch_param.specs.declared.selection.ParamCommand.TheVariants.{Select, Enter, Unselect, Clear, Pass}
+use Rattle.ch_param.specs.declared.selection.ParamCommand.TheVariants.{Enter, Clear, Pass}
 use Rattle.ch_param.specs.declared.selection.Selection.{Selection}
 use Rattle.ch_param.specs.declared.events.ParamEvent.{ParamEvent}
 use Rattle.ch_param.specs.declared.events.ParamEvent.TheVariants.{Entry, Cleared, Other}
 use Rattle.ch_param.specs.Param.{same_param}
 use Rattle.ch_param.specs.Selection.{no_selection, param_command, control_command, selected_param, is_data_entry}
-use Rattle.ch_param.specs.Event.{Place, selection_step, packet_at, event_at, entry, param_event, takes_param, param_event_ends, param_ends}
+use Rattle.ch_param.specs.Event.{Place, selection_step, packet_at, event_at, param_event, param_event_ends, param_ends}
 use Rattle.ch_param.specs.ChapterM.{Entered, entered, entered_at, entered_by, event_param, session_places, param_logs, fresh_among, chapter_of, chapter_m, param_count, has_param, param_parts, selected}
 use Rattle.ch_param.specs.HalfLaws.{same_param-equal}
 use Rattle.ch_param.specs.LogLaws.{logs_short}

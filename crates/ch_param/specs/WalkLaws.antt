@@ -1,5 +1,5 @@
 -- The coded parameters, one place of the history after another.
-use Rattle.std.proofs.Common.{◌≡◌, ℕ, ◌<◌, Bool, true, false, cond, ltb, leb, List, [], ◌∷◌, Option, Some, None, length, refl, sym, ap, ◌∙◌, arith, inl, inr}
+use Rattle.std.proofs.Common.{◌≡◌, ℕ, ◌<◌, Bool, true, false, cond, leb, List, ◌∷◌, Option, Some, None, length, refl, ap, ◌∙◌, inl, inr}
 use Rattle.std.specs.List.{list_any, filter_map, cons_option}
 use Rattle.std.proofs.lemmas.Bool.{cases_Bool}
 use Rattle.jm_cmds.specs.declared.history.Sent.{Sent}

@@ -1,4 +1,4 @@
-use Rattle.std.proofs.Common.{◌≡◌, [], None, fold, ◌∙◌}
+use Rattle.std.proofs.Common.{◌≡◌, None, fold, ◌∙◌}
 use Rattle.ch_param.specs.ChapterM.{session_places}
 use Rattle.ch_param.specs.HalfLaws.{place_step, coded_half-fold}
 use Rattle.ch_param.proofs.halves.coded_half.Goals as goal

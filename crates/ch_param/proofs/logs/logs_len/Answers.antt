@@ -1,4 +1,4 @@
-use Rattle.std.proofs.Common.{◌≡◌, ℕ, ◌+◌, ◌≤◌, ◌∙◌, true, false, List, length, ap, arith, length-append}
+use Rattle.std.proofs.Common.{◌≡◌, ◌∙◌, true, false, List, length, ap, arith, length-append}
 use Rattle.std.specs.List.{flat_map}
 use Rattle.jm_cmds.specs.Sent.{s_bit}
 use Rattle.ch_param.specs.Event.{placed}
