@@ -1,0 +1,14 @@
+-- What a chapter of one log shows of the packet before, by its octets alone.
+use Rattle.std.specs.Prelude.{◌≡◌, ℕ, Bool, false, List, [], ◌∷◌, nat_lt}
+use Rattle.std.specs.List.{AllByRecursion}
+use Rattle.jm_cmds.specs.declared.history.Sent.{Sent}
+use Rattle.jm_cmds.specs.Command.{IsCommand}
+
+-- whether there is a chapter and its S is 0
+abbrev pub shows_fresh : List ℕ → Bool
+shows_fresh [] = false
+shows_fresh (first ∷ rest) = nat_lt first 128
+
+-- A chapter is fresh exactly where its S is 0.
+abbrev pub FreshShows : ((channel from packet : ℕ) → List Sent → List ℕ) → ((channel from packet : ℕ) → List Sent → Bool) → Type 0
+FreshShows chapter fresh = (channel from packet : ℕ) (sent : List Sent) → AllByRecursion (λ place. IsCommand place.command) sent → fresh channel from packet sent ≡ shows_fresh (chapter channel from packet sent)

@@ -1,0 +1,16 @@
+pub mod OneItem
+pub mod WheelEvent
+pub mod PressureEvent
+pub mod ProgramEvent
+pub mod Bank
+pub mod ChapterW
+pub mod ChapterT
+pub mod ChapterP
+pub mod KeptWheel
+pub mod KeptPressure
+pub mod KeptProgram
+pub mod WheelLaws
+pub mod PressureLaws
+pub mod ProgramLaws
+pub mod Fresh
+pub mod FreshLaws

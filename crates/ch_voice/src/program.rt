@@ -1,0 +1,32 @@
+//! The log of the program (RFC 6295, A.2, Figure A.2.1).
+
+ghost use Rattle.std.specs.Prelude.{◌≡◌, ◌≤◌, Some, length};
+ghost use Rattle.jm_wire.specs.Octets.{Appends};
+ghost use Rattle.ch_voice.specs.KeptProgram.{program_text};
+
+use jm_cmds::{D7, s_of};
+use jm_wire::Octets;
+
+/// The program that stands.
+#[derive(Clone, Copy)]
+pub(crate) struct ProgramLog {
+    /// Whether the packet before brought it.
+    pub(crate) fresh: bool,
+    pub(crate) program: D7,
+    /// B BANK-MSB.
+    pub(crate) high: u8,
+    /// X BANK-LSB.
+    pub(crate) low: u8,
+}
+
+impl ProgramLog {
+    /// Appends S PROGRAM and the bank.
+    pub(crate) fn write(&self, out: &mut Octets)
+        requires { 3 ≤ out.old.spare }
+        ensures { Appends out.old out.new (program_text (Some self.now)) }
+    {
+        out.push(s_of(self.fresh) + self.program.get());
+        out.push(self.high);
+        out.push(self.low);
+    }
+}
