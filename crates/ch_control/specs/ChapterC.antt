@@ -1,4 +1,4 @@
--- Chapter C of a channel (RFC 6295, A.3.1, Figure A.3.1, and A.3.2, Figures A.3.2 and A.3.3).
+-- Chapter C of a channel (RFC 6295, A.3, Figure A.3.1, and A.3.2, Figures A.3.2 and A.3.3).
 use Rattle.std.specs.Prelude.{ℕ, ◌+◌, ◌-◌, Bool, true, false, ◌&&◌, List, [], ◌∷◌, count_by, ◌==◌, if◌then◌else◌}
 use Rattle.std.specs.List.{list_any, flat_map}
 use Rattle.jm_cmds.specs.declared.history.Sent.{Sent}

@@ -1,4 +1,4 @@
--- What a chapter shows of the packet before, by its octets alone (RFC 6295, A.3.1).
+-- What a chapter shows of the packet before, by its octets alone (RFC 6295, A.3).
 use Rattle.std.specs.Prelude.{◌≡◌, ℕ, Bool, false, ◌||◌, List, [], ◌∷◌, nat_lt}
 use Rattle.std.specs.List.{AllByRecursion}
 use Rattle.jm_cmds.specs.declared.history.Sent.{Sent}

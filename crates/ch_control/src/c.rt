@@ -118,11 +118,12 @@ pub fn plain_write(
     ensures { Appends out.old out.new (chapter_c channel from packet list.now) }
 {
     let _ = tick;
+    let session = session_history(list, packet);
     let places = checkpoint_history(list, from, packet);
     let logs = logs_among(places, channel, packet);
     if logs.count > 0 {
         out.push(s_of(logs.fresh) + (logs.count as u8 - 1));
-        write_logs(places, session_history(list, packet), channel, packet, out);
+        write_logs(places, session, channel, packet, out);
     }
 }
 

@@ -18,7 +18,7 @@ pub enum ControlEvent {
     Other,
 }
 
-/// Whether it is 6 or 38, which set a half of a parameter and belong to Chapter M (RFC 6295, A.3.1).
+/// Whether it is 6 or 38, which set a half of a parameter and belong to Chapter M (RFC 6295, A.3.4).
 #[tactic(auto, unfolding(crate::specs::ControlEvent::is_entry))]
 fn is_entry(number: D7) -> bool
     ensures { result ≡ is_entry number }
@@ -27,7 +27,7 @@ fn is_entry(number: D7) -> bool
 }
 
 /// The item of a controller: its number, but 124 and 125 are one item, and so are 126 and 127
-/// (RFC 6295, A.3.3).
+/// (RFC 6295, A.3.1).
 #[tactic(auto, unfolding(crate::specs::ControlEvent::item_of))]
 fn item_of(number: D7) -> u8
     ensures { result ≡ item_of number }
@@ -39,7 +39,7 @@ fn item_of(number: D7) -> u8
     }
 }
 
-/// Whether Control 121 leaves it as it is: 0, 32 and 120 to 127 (RFC 6295, A.3.3).
+/// Whether Control 121 leaves it as it is: 0, 32 and 120 to 127 (RFC 6295, A.3.1).
 #[tactic(auto, unfolding(crate::specs::ControlEvent::is_kept))]
 fn is_kept(number: D7) -> bool
     ensures { result ≡ is_kept number }
@@ -47,7 +47,8 @@ fn is_kept(number: D7) -> bool
     matches!(number.get(), 0 | 32 | 120..)
 }
 
-/// Whether its log has a count in place of the value: 96, 97, 120, 121 and 123 (RFC 6295, A.3.2).
+/// Whether its log has a count in place of the value: 96, 97, 120, 121 and 123 (RFC 6295, A.3.2
+/// and A.3.3).
 #[tactic(auto, unfolding(crate::specs::ControlEvent::is_counted))]
 fn is_counted(number: D7) -> bool
     ensures { result ≡ is_counted number }

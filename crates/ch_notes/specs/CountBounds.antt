@@ -16,13 +16,13 @@ use Rattle.ch_notes.specs.Count.{IsCount}
 use Rattle.ch_notes.specs.CountLaws.{counted-logs, counted-off, counted-low, counted-high}
 use Rattle.ch_notes.specs.ChapterN.{is_struck, released_note, released, log_count, low_octet, high_octet}
 
-abbrev note_of : NoteEvent → Option ℕ
+abbrev pub note_of : NoteEvent → Option ℕ
 note_of (Struck note velocity) = Some note
 note_of (Released note velocity) = Some note
 note_of Cleared = None
 note_of Other = None
 
-abbrev notes_of : ℕ → List Sent → List ℕ
+abbrev pub notes_of : ℕ → List Sent → List ℕ
 notes_of channel places = filter_map (λ place. note_of (event_at channel place)) places
 
 -- each note has a log or a bit
@@ -80,7 +80,7 @@ found-below (n ∷ ns) q h e =
       | inr later ↦ found-below ns q h.1 later
     ]
 
-notes-few : (channel : ℕ) (places : List Sent) → Unended (note_ends channel) places → AreWithin channel places → length (notes_of channel places) ≤ 128
+pub notes-few : (channel : ℕ) (places : List Sent) → Unended (note_ends channel) places → AreWithin channel places → length (notes_of channel places) ≤ 128
 notes-few channel places u w =
     length-le_from_distinct_below (notes_of channel places) 128 (IsDistinct-notes channel places u)
     (λ q e. found-below (notes_of channel places) q (notes-below channel places w) e)

@@ -4,6 +4,9 @@ use Rattle.std.specs.List.{AllByRecursion}
 use Rattle.jm_cmds.specs.declared.history.Sent.{Sent}
 use Rattle.jm_cmds.specs.Command.{IsCommand}
 use Rattle.ch_notes.specs.ChapterN.{chapter_n, fresh_n}
+use Rattle.ch_notes.specs.ChapterE.{chapter_e, fresh_e}
+use Rattle.ch_notes.specs.ChapterA.{chapter_a, fresh_a}
+use Rattle.ch_notes.specs.Listed.{header_shows_fresh, log_shows_fresh}
 
 -- the number of logs: LEN, but 128 where LEN is 127, LOW 15 and HIGH 0
 abbrev pub log_number : ℕ → ℕ → ℕ
@@ -22,6 +25,18 @@ shows_fresh [] = false
 shows_fresh (first ∷ []) = false
 shows_fresh (first ∷ second ∷ rest) = nat_lt first 128 || clear_s (log_number first second) rest
 
--- The chapter is fresh exactly where B or an S bit in its octets is 0.
+-- Chapter N is fresh exactly where B or an S bit in its octets is 0.
 abbrev pub FreshShows : Type 0
 FreshShows = (channel checkpoint packet tick : ℕ) (sent : List Sent) → AllByRecursion (λ place. IsCommand place.command) sent → fresh_n channel checkpoint packet sent ≡ shows_fresh (chapter_n channel checkpoint packet tick sent)
+
+-- Chapter E is fresh exactly where its header's S bit is 0, and exactly where that of one of its logs is.
+abbrev pub ExtraShows : Type 0
+ExtraShows = (channel checkpoint packet : ℕ) (sent : List Sent) → AllByRecursion (λ place. IsCommand place.command) sent →
+    (fresh_e channel checkpoint packet sent ≡ header_shows_fresh (chapter_e channel checkpoint packet sent))
+    × (fresh_e channel checkpoint packet sent ≡ log_shows_fresh (chapter_e channel checkpoint packet sent))
+
+-- So is Chapter A.
+abbrev pub PressShows : Type 0
+PressShows = (channel checkpoint packet : ℕ) (sent : List Sent) → AllByRecursion (λ place. IsCommand place.command) sent →
+    (fresh_a channel checkpoint packet sent ≡ header_shows_fresh (chapter_a channel checkpoint packet sent))
+    × (fresh_a channel checkpoint packet sent ≡ log_shows_fresh (chapter_a channel checkpoint packet sent))

@@ -28,7 +28,7 @@ cleared-within true = tt
 cleared-within false = tt
 
 -- a command within its bounds means a note within its bounds
-IsWithin-event : (channel : ℕ) (command : Command) → IsCommand command → IsWithin (note_event channel command)
+pub IsWithin-event : (channel : ℕ) (command : Command) → IsCommand command → IsWithin (note_event channel command)
 IsWithin-event channel (NoteOn at note velocity) h =
     elim (cases_Bool (eqb at channel)) [
       | inl t ↦ elim (cases_Bool (eqb velocity 0)) [

@@ -9,3 +9,11 @@ pub mod BitLaws
 pub mod ChapterLaws
 pub mod Fresh
 pub mod FreshLaws
+pub mod Listed
+pub mod ListedLaws
+pub mod ChapterE
+pub mod PolyEvent
+pub mod ChapterA
+pub mod PolyLimits
+pub mod ExtraLaws
+pub mod PressLaws

@@ -1,15 +1,21 @@
-//! Chapters of the recovery journal that speak of notes (RFC 6295, A.6).
+//! Chapters of the recovery journal that speak of notes (RFC 6295, A.6, A.7 and A.9).
 //!
-//! Module `n` has the plain functions of Chapter N. They look at the list of all sent commands, keep
-//! nothing and take no memory.
+//! Modules `n`, `e` and `a` have the plain functions of Chapters N, E and A. They look at the list of all
+//! sent commands, keep nothing and take no memory.
 #![tactic(auto)]
 
+pub mod a;
+pub mod e;
 mod events;
 pub mod laws;
+mod listed;
 pub mod n;
+mod presses;
 mod shape;
 
 pub use events::{NoteEvent, note_event};
+pub use listed::Log;
+pub use presses::{PolyEvent, poly_event};
 
 #[cfg(test)]
 mod tests;

@@ -1,4 +1,5 @@
 use crate::n::{plain_fresh, plain_len, plain_write};
+use crate::{a, e};
 use jm_cmds::{Channel, Command, D7, Sent, in_order};
 use jm_wire::Octets;
 use std::alloc::{AllocError, Global};
@@ -104,5 +105,102 @@ fn released_notes_have_bits(rt: HostRuntime) -> Result<(), Fail> {
     assert!(rt; octets.starts_with(&[0x7e, 0x0f]));
     assert!(rt; octets.ends_with(&[0x80, 0, 0, 0, 0, 0, 0, 0, 0, 0, 0, 0, 0, 0, 0, 0x01]));
     assert_eq!(rt; octets.len(), 270);
+    Ok(())
+}
+
+/// A command of channel 0 by its octets.
+fn command(status: u8, first: u8, second: u8) -> Command {
+    let channel = Channel::low(0);
+    let note = D7::low(first);
+    let value = D7::low(second);
+    match status {
+        0x80 => Command::NoteOff {
+            channel,
+            note,
+            velocity: value,
+        },
+        0x90 => Command::NoteOn {
+            channel,
+            note,
+            velocity: value,
+        },
+        0xa0 => Command::PolyPressure {
+            channel,
+            note,
+            value,
+        },
+        _ => Command::Control {
+            channel,
+            number: note,
+            value,
+        },
+    }
+}
+
+/// Checks Chapter E of packet 1, where all these commands are of packet 0.
+fn check_e<R: Abort>(rt: &R, list: &[Sent], text: &[u8], alloc: Global) -> Result<(), AllocError> {
+    let channel = Channel::low(0);
+    assert!(rt; in_order(list));
+    let mut out = Octets::with_room(e::plain_len(list, channel, 0, 1, 0), alloc)?;
+    e::plain_write(list, channel, 0, 1, 0, &mut out);
+    assert_eq!(rt; out.as_slice(), text);
+    assert_eq!(rt; e::plain_fresh(list, channel, 0, 1), !text.is_empty());
+    Ok(())
+}
+
+/// Checks Chapter A of packet 1, where all these commands are of packet 0.
+fn check_a<R: Abort>(rt: &R, list: &[Sent], text: &[u8], alloc: Global) -> Result<(), AllocError> {
+    let channel = Channel::low(0);
+    assert!(rt; in_order(list));
+    let mut out = Octets::with_room(a::plain_len(list, channel, 0, 1, 0), alloc)?;
+    a::plain_write(list, channel, 0, 1, 0, &mut out);
+    assert_eq!(rt; out.as_slice(), text);
+    assert_eq!(rt; a::plain_fresh(list, channel, 0, 1), !text.is_empty());
+    Ok(())
+}
+
+#[test]
+fn counts_and_velocities(rt: HostRuntime) -> Result<(), Fail> {
+    let alloc = rt.alloc();
+    let on = first_packet(command(0x90, 0x3c, 0x64), 0);
+    let list = vec![in alloc; on, first_packet(command(0x90, 0x3c, 0x64), 0)]?;
+    check(&rt, &list, 1, 0, &[0x81, 0xf0, 0x3c, 0xe4], alloc)?;
+    check_e(&rt, &list, &[0x00, 0x3c, 0x02], alloc)?;
+    let on = first_packet(command(0x90, 0x3c, 0x64), 0);
+    let list = vec![in alloc; on, first_packet(command(0x80, 0x3c, 0x20), 0)]?;
+    check(&rt, &list, 1, 0, &[0x00, 0x77, 0x08], alloc)?;
+    check_e(&rt, &list, &[0x00, 0x3c, 0xa0], alloc)?;
+    let on = first_packet(command(0x90, 0x3c, 0x64), 0);
+    let list = vec![in alloc; on, first_packet(command(0x80, 0x3c, 64), 0)]?;
+    check_e(&rt, &list, &[], alloc)?;
+    let on = first_packet(command(0x90, 0x3c, 0x64), 0);
+    let list = vec![in alloc;
+        on,
+        first_packet(command(0xb0, 123, 0), 0),
+        first_packet(command(0x90, 0x3c, 1), 0),
+    ]?;
+    check_e(&rt, &list, &[], alloc)?;
+    Ok(())
+}
+
+#[test]
+fn pressures_on_keys(rt: HostRuntime) -> Result<(), Fail> {
+    let alloc = rt.alloc();
+    let press = first_packet(command(0xa0, 0x3c, 0x50), 0);
+    let list = vec![in alloc; press, first_packet(command(0xb0, 120, 0), 0)]?;
+    check_a(&rt, &list, &[0x00, 0x3c, 0xd0], alloc)?;
+    let channel = Channel::low(0);
+    assert!(rt; in_order(&list));
+    assert_eq!(rt; a::plain_notes(&list, channel, 0), 1);
+    assert_eq!(rt; a::plain_notes(&list, channel, 1), 0);
+    assert!(rt; a::plain_has_note(&list, channel, 0, D7::low(0x3c)));
+    assert!(rt; !a::plain_has_note(&list, channel, 0, D7::low(0x3d)));
+    let press = first_packet(command(0xa0, 0x3c, 0x50), 0);
+    let list = vec![in alloc;
+        press,
+        first_packet(command(0xb0, 121, 0), 0),
+        first_packet(command(0xa0, 0x3d, 1), 0),
+    ]?;
+    check_a(&rt, &list, &[0x00, 0x3d, 0x01], alloc)?;
     Ok(())
 }

@@ -45,7 +45,7 @@ write_logs-requires c =
     let places = c.checkpoint_history-places.result.now in
     let logs = c.logs_among-logs in
     let all = full a.channel a.from a.packet logs.result.count logs.result.fresh a.list.now places (c.checkpoint_history-places.ensures.coded (control_ends a.channel)) logs.ensures.count logs.ensures.fresh c.if-logs-gt0.true in
-    let same = ap (λ (k : List Sent). length (logs_of a.channel a.packet k places)) c.session_history.ensures.history in
+    let same = ap (λ (k : List Sent). length (logs_of a.channel a.packet k places)) c.session_history-session.ensures.history in
     omega (arith, ap length all, c.requires.spare, same, c.push.ensures.spare)
 
 pub returns-then-logs-gt0 : goal.returns-then-logs-gt0
@@ -57,7 +57,7 @@ returns-then-logs-gt0 c =
     let session = below packet_of a.packet a.list.now in
     let all = full a.channel a.from a.packet count logs.result.fresh a.list.now places (c.checkpoint_history-places.ensures.coded (control_ends a.channel)) logs.ensures.count logs.ensures.fresh c.if-logs-gt0.true in
     let head : Appends a.out.now c.push.new.self ((s_of logs.result.fresh + (count - 1)) ∷ []) = subst (λ (k : ℕ). Appends a.out.now c.push.new.self ((k + (count - 1)) ∷ [])) c.s_of.ensures.bit c.push.ensures in
-    let tail : Appends c.push.new.self c.write_logs.new.out (logs_of a.channel a.packet session places) = subst (λ (k : List Sent). Appends c.push.new.self c.write_logs.new.out (logs_of a.channel a.packet k places)) c.session_history.ensures.history c.write_logs.ensures in
+    let tail : Appends c.push.new.self c.write_logs.new.out (logs_of a.channel a.packet session places) = subst (λ (k : List Sent). Appends c.push.new.self c.write_logs.new.out (logs_of a.channel a.packet k places)) c.session_history-session.ensures.history c.write_logs.ensures in
     subst (λ (t : List ℕ). Appends a.out.now c.write_logs.new.out t) (sym all) (joined head tail)
 
 pub returns-else-logs-gt0 : goal.returns-else-logs-gt0

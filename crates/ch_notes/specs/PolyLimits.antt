@@ -1,0 +1,51 @@
+-- How a command, and a later checkpoint, change the number of notes that Chapter A codes.
+use Rattle.std.proofs.Common.{◌≡◌, ℕ, ◌+◌, ◌≤◌, true, false, eqb, List, [], ◌∷◌, ◌++◌, Option, Some, None, refl, ap, ◌∙◌}
+use Rattle.std.proofs.lemmas.Bool.{eq-eqb}
+use Rattle.jm_cmds.specs.declared.history.Sent.{Sent}
+use Rattle.jm_cmds.specs.Keys.{EndsKey, keys_push, keys_none, keys_met, keys_later}
+use Rattle.jm_cmds.specs.Sent.{packet_of}
+use Rattle.ch_notes.specs.declared.presses.PolyEvent.{PolyEvent}
+use Rattle.ch_notes.specs.declared.presses.PolyEvent.TheVariants.{Pressed, Dropped, Other}
+use Rattle.ch_notes.specs.PolyEvent.{poly_at, poly_event_ends, poly_ends, poly_key, pressed_note}
+use Rattle.ch_notes.specs.ChapterA.{poly_count, has_poly}
+
+none_some : (k : ℕ) → None ≡ Some k → ⊥
+none_some k e = cc
+
+meets : (a b : PolyEvent) (k : ℕ) → pressed_note a ≡ Some k → pressed_note b ≡ Some k → poly_event_ends a b ≡ true
+meets (Pressed note value) (Pressed other next) k p q = eq-eqb note other (cc)
+meets (Pressed note value) Dropped k p q = absurd (none_some k q)
+meets (Pressed note value) Other k p q = absurd (none_some k q)
+meets Dropped b k p q = absurd (none_some k p)
+meets Other b k p q = absurd (none_some k p)
+
+-- a pressure on a note ends the one before it
+pub EndsKey-poly : (channel : ℕ) → EndsKey (poly_ends channel) (poly_key channel)
+EndsKey-poly channel = λ x y k p q. meets (poly_at channel x) (poly_at channel y) k p q
+
+-- One more command makes the coded notes at most one more.
+pub poly_count-push : (channel from : ℕ) (sent : List Sent) (last : Sent) → from ≤ last.packet → poly_count channel from (sent ++ last ∷ []) ≤ poly_count channel from sent + 1
+unfolding poly_count
+poly_count-push channel from sent last l = keys_push (poly_ends channel) packet_of (poly_key channel) from sent last l
+
+-- One that presses no key of the channel makes them no more.
+pub poly_count-other : (channel from : ℕ) (sent : List Sent) (last : Sent) → from ≤ last.packet → poly_key channel last ≡ None → poly_count channel from (sent ++ last ∷ []) ≤ poly_count channel from sent
+unfolding poly_count
+poly_count-other channel from sent last l e = keys_none (poly_ends channel) packet_of (poly_key channel) from sent last l e
+
+-- Nor does one on a note that is coded.
+pub poly_count-met : (channel from note : ℕ) (sent : List Sent) (last : Sent) → from ≤ last.packet → poly_key channel last ≡ Some note → has_poly channel from note sent ≡ true → poly_count channel from (sent ++ last ∷ []) ≤ poly_count channel from sent
+unfolding poly_count has_poly
+poly_count-met channel from note sent last l e h = keys_met (poly_ends channel) packet_of (poly_key channel) (EndsKey-poly channel) from sent last note l e h
+
+-- A later checkpoint makes them no more.
+pub poly_count-later : (channel from later : ℕ) (sent : List Sent) → from ≤ later → poly_count channel later sent ≤ poly_count channel from sent
+unfolding poly_count
+poly_count-later channel from later sent l = keys_later (poly_ends channel) packet_of (poly_key channel) from later sent l
+
+-- How the number of coded notes changes as commands are sent and the checkpoint grows.
+pub record PolyLimits : Type 0 where
+  pub one_more : (channel from : ℕ) (sent : List Sent) (last : Sent) → from ≤ last.packet → poly_count channel from (sent ++ last ∷ []) ≤ poly_count channel from sent + 1
+  pub other : (channel from : ℕ) (sent : List Sent) (last : Sent) → from ≤ last.packet → poly_key channel last ≡ None → poly_count channel from (sent ++ last ∷ []) ≤ poly_count channel from sent
+  pub met : (channel from note : ℕ) (sent : List Sent) (last : Sent) → from ≤ last.packet → poly_key channel last ≡ Some note → has_poly channel from note sent ≡ true → poly_count channel from (sent ++ last ∷ []) ≤ poly_count channel from sent
+  pub fewer : (channel from later : ℕ) (sent : List Sent) → from ≤ later → poly_count channel later sent ≤ poly_count channel from sent
