@@ -3,7 +3,8 @@ use Rattle.std.specs.Prelude.{ℕ, ◌+◌, ◌*◌, Bool, ◌||◌, List, [], �
 use Rattle.jm_cmds.specs.declared.commands.Command.{Command}
 use Rattle.jm_cmds.specs.declared.commands.Command.TheVariants.{SongSelect}
 use Rattle.jm_cmds.specs.declared.history.Sent.{Sent}
-use Rattle.jm_cmds.specs.Sent.{s_of, s_bit}
+use Rattle.jm_cmds.specs.History.{below}
+use Rattle.jm_cmds.specs.Sent.{packet_of, s_of, s_bit}
 use Rattle.ch_system.specs.declared.items.SystemItem.{SystemItem}
 use Rattle.ch_system.specs.declared.items.SystemItem.TheVariants.{Reset, Tune, Song}
 use Rattle.ch_system.specs.Items.{item_coded, item_count, item_fresh}
@@ -15,7 +16,7 @@ song_of _ = 0
 
 -- the log of an item that is counted, where it is coded: S COUNT
 abbrev pub count_logs : SystemItem → (from packet : ℕ) → List Sent → List ℕ
-count_logs item from packet sent = map (λ place. s_bit packet place + item_count item packet sent) (item_coded item from packet sent)
+count_logs item from packet sent = map (λ place. s_bit packet place + item_count item (below packet_of packet sent)) (item_coded item from packet sent)
 
 -- the log of the song, where it is coded: S VALUE
 abbrev pub song_logs : (from packet : ℕ) → List Sent → List ℕ

@@ -1,6 +1,5 @@
 -- What holds of every time code.
-use Rattle.std.proofs.Common.{◌≡◌, ℕ, ◌+◌, ◌/◌, ◌%◌, ◌<◌, Bool, true, false, cond, eqb, List, [], ◌∷◌, Option, Some, None, fold, ltb, refl, arith, inl, inr}
-use Rattle.std.specs.List.{AllByRecursion}
+use Rattle.std.proofs.Common.{◌≡◌, ℕ, ◌/◌, ◌%◌, ◌<◌, Bool, true, false, cond, eqb, List, [], ◌∷◌, Option, Some, None, fold, ltb, refl, arith, inl, inr}
 use Rattle.std.specs.Option.{is_some}
 use Rattle.std.proofs.lemmas.Bool.{cases_Bool}
 use Rattle.jm_cmds.specs.declared.commands.Command.{Command}
@@ -16,7 +15,7 @@ use Rattle.ch_system.specs.declared.frames.TimeCode.{TimeCode}
 use Rattle.ch_system.specs.declared.frames.FrameEvent.{FrameEvent}
 use Rattle.ch_system.specs.declared.frames.FrameEvent.TheVariants.{Framed, Cleared, Other}
 use Rattle.ch_system.specs.Items.{is_frame, item_coded}
-use Rattle.ch_system.specs.Frames.{frame_event, IsFrameEvent, time_code_from, restarted, advanced, is_next, framed, framed_on, time_code_step, time_code_along, time_code_after, IsTimeCode}
+use Rattle.ch_system.specs.Frames.{frame_event, IsFrameEvent, time_code_from, restarted, advanced, is_next, framed_on, time_code_step, time_code_along, time_code_after, IsTimeCode}
 use Rattle.ch_system.specs.StateLaws.{Lasts, coded_there}
 use Rattle.ch_system.specs.Fresh.{AreCommands}
 

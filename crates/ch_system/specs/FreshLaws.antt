@@ -1,7 +1,6 @@
 -- Each chapter shows what the packet before brought.
-use Rattle.std.proofs.Common.{◌≡◌, ℕ, ◌+◌, ◌*◌, ◌/◌, ◌%◌, ◌≤◌, ◌<◌, Bool, true, false, not, cond, ◌||◌, eqb, ltb, List, [], ◌∷◌, ◌++◌, Option, Some, None, map, refl, sym, ap, ◌∙◌, arith, inl, inr}
-use Rattle.std.specs.List.{list_any, flat_map}
-use Rattle.std.specs.Option.{is_some}
+use Rattle.std.proofs.Common.{◌≡◌, ℕ, ◌+◌, ◌*◌, ◌%◌, ◌≤◌, ◌<◌, Bool, true, false, not, ◌||◌, eqb, ltb, List, [], ◌∷◌, ◌++◌, map, refl, sym, ◌∙◌, arith, inl, inr}
+use Rattle.std.specs.List.{list_any}
 use Rattle.std.proofs.lemmas.Bool.{cases_Bool, lt-ltb, le-ltb}
 use Rattle.jm_wire.specs.declared.heads.SeqHead.{SeqHead}
 use Rattle.jm_wire.specs.declared.heads.TimeHead.{TimeHead}
@@ -14,16 +13,16 @@ use Rattle.ch_system.specs.declared.items.SystemItem.TheVariants.{Reset, Tune, S
 use Rattle.ch_system.specs.declared.sequencing.Sequencer.{Sequencer}
 use Rattle.ch_system.specs.declared.frames.TimeCode.{TimeCode}
 use Rattle.ch_system.specs.Items.{item_coded, item_count, item_fresh}
-use Rattle.ch_system.specs.ItemLaws.{OneAtMost, none, one, one-coded}
-use Rattle.ch_system.specs.Sequencing.{sequencer_after, sequencer_along, IsSequencer}
+use Rattle.ch_system.specs.ItemLaws.{none, one, one-coded}
+use Rattle.ch_system.specs.Sequencing.{sequencer_after}
 use Rattle.ch_system.specs.SequencingLaws.{IsSequencer-after, position_there}
-use Rattle.ch_system.specs.Frames.{time_code_after, time_code_along, IsTimeCode}
+use Rattle.ch_system.specs.Frames.{time_code_after}
 use Rattle.ch_system.specs.FrameLaws.{IsTimeCode-after, time_code_there}
-use Rattle.ch_system.specs.StateLaws.{Value, value_of}
+use Rattle.ch_system.specs.StateLaws.{value_of}
 use Rattle.ch_system.specs.ChapterD.{chapter_d, fresh_d, d_head, headed, any_bit, count_logs, song_logs, song_of}
 use Rattle.ch_system.specs.ChapterV.{chapter_v, fresh_v}
-use Rattle.ch_system.specs.ChapterQ.{chapter_q, fresh_q, position_octets, sequencer_octets, sequencer_head}
-use Rattle.ch_system.specs.ChapterF.{chapter_f, fresh_f, time_octets_of, code_octets, code_head, word_octets}
+use Rattle.ch_system.specs.ChapterQ.{chapter_q, fresh_q, sequencer_octets, sequencer_head}
+use Rattle.ch_system.specs.ChapterF.{chapter_f, fresh_f, code_octets, code_head, word_octets}
 use Rattle.ch_system.specs.Fresh.{shows_fresh, AreCommands}
 
 -- an S bit above seven bits
@@ -41,16 +40,16 @@ or-false false = refl
 
 -- ## Chapter V
 
-count-bound : (packet : ℕ) (sent : List Sent) → item_count Sensing packet sent < 128
+count-bound : (session : List Sent) → item_count Sensing session < 128
 unfolding item_count
-count-bound packet sent = omega arith
+count-bound session = omega arith
 
 pub fresh_v-shows : (from packet : ℕ) (sent : List Sent) → fresh_v from packet sent ≡ shows_fresh (chapter_v from packet sent)
 unfolding fresh_v chapter_v
 fresh_v-shows from packet sent =
     elim (one-coded Sensing from packet sent) [
       | none e ↦ rw e refl
-      | one x e ↦ rw e (or-false (is_fresh packet x) ∙ sym (s-shows (is_fresh packet x) (item_count Sensing packet sent) (count-bound packet sent)))
+      | one x e ↦ rw e (or-false (is_fresh packet x) ∙ sym (s-shows (is_fresh packet x) (item_count Sensing (below packet_of packet sent)) (count-bound (below packet_of packet sent))))
     ]
 
 -- ## Chapter Q
@@ -145,8 +144,8 @@ nothing-fresh : (from packet : ℕ) (sent : List Sent) → (count_logs Reset fro
 unfolding fresh_d
 nothing-fresh from packet sent e =
     let parts = all-empty (count_logs Reset from packet sent) (count_logs Tune from packet sent) (song_logs from packet sent) e in
-    let reset : item_fresh Reset from packet sent ≡ false = none-fresh packet (λ place. s_bit packet place + item_count Reset packet sent) (item_coded Reset from packet sent) parts.0 in
-    let tune : item_fresh Tune from packet sent ≡ false = none-fresh packet (λ place. s_bit packet place + item_count Tune packet sent) (item_coded Tune from packet sent) parts.1 in
+    let reset : item_fresh Reset from packet sent ≡ false = none-fresh packet (λ place. s_bit packet place + item_count Reset (below packet_of packet sent)) (item_coded Reset from packet sent) parts.0 in
+    let tune : item_fresh Tune from packet sent ≡ false = none-fresh packet (λ place. s_bit packet place + item_count Tune (below packet_of packet sent)) (item_coded Tune from packet sent) parts.1 in
     let song : item_fresh Song from packet sent ≡ false = none-fresh packet (λ place. s_bit packet place + song_of place.command) (item_coded Song from packet sent) parts.2 in
     rw (reset, tune, song) refl
 

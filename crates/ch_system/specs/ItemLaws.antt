@@ -1,10 +1,10 @@
 -- What holds of an item's places: one at most is coded.
-use Rattle.std.proofs.Common.{◌≡◌, ℕ, ◌+◌, ◌≤◌, Bool, true, false, not, cond, ◌&&◌, ◌||◌, List, [], ◌∷◌, length, refl, sym, ap, ◌∙◌, arith, inl, inr}
+use Rattle.std.proofs.Common.{◌≡◌, ℕ, Bool, true, false, not, cond, ◌&&◌, ◌||◌, List, [], ◌∷◌, refl, ap, ◌∙◌, inl, inr}
 use Rattle.std.specs.List.{list_any, AllByRecursion, filter}
-use Rattle.std.proofs.lemmas.Bool.{cases_Bool, and_parts, or_parts}
+use Rattle.std.proofs.lemmas.Bool.{cases_Bool}
 use Rattle.jm_cmds.specs.declared.history.Sent.{Sent}
 use Rattle.jm_cmds.specs.Control.{is_reset}
-use Rattle.jm_cmds.specs.History.{standing, coded, below, since, Unended}
+use Rattle.jm_cmds.specs.History.{standing, coded, below, Unended}
 use Rattle.jm_cmds.specs.HistoryLaws.{filter_none, AllByRecursion-weaker, AllByRecursion-standing, Unended-coded, all_unended}
 use Rattle.jm_cmds.specs.Sent.{packet_of}
 use Rattle.ch_system.specs.declared.items.SystemItem.{SystemItem}
@@ -27,7 +27,7 @@ none-behind item place later t h =
 standing-step : (item : SystemItem) (place : Sent) (later : List Sent) →
     item_standing item (place ∷ later)
     ≡ cond (list_any (item_ends item place) later) (item_standing item later)
-      (cond (is_of item place.command) (place ∷ item_standing item later) (item_standing item later))
+    (cond (is_of item place.command) (place ∷ item_standing item later) (item_standing item later))
 unfolding item_standing
 standing-step item place later =
     elim (cases_Bool (list_any (item_ends item place) later)) [ inl t ↦ rw t refl | inr f ↦ rw f refl ]

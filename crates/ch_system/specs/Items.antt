@@ -67,6 +67,10 @@ item_standing item places = filter (is_place_of item) (standing (item_ends item)
 unfoldable pub item_coded : SystemItem → ℕ → ℕ → List Sent → List Sent
 item_coded item from packet sent = filter (is_place_of item) (coded (item_ends item) packet_of from (below packet_of packet sent))
 
+-- whether the packet before brought what is coded of the item
+abbrev pub item_fresh : SystemItem → ℕ → ℕ → List Sent → Bool
+item_fresh item from packet sent = list_any (is_fresh packet) (item_coded item from packet sent)
+
 -- whether the place is the item's, and none of the later ones ends it
 abbrev pub is_standing : SystemItem → Sent → List Sent → Bool
 is_standing item place later = is_of item place.command && not (list_any (item_ends item place) later)
@@ -77,10 +81,6 @@ is_standing item place later = is_of item place.command && not (list_any (item_e
 abbrev pub item_total : SystemItem → List Sent → ℕ
 item_total item places = count_by (is_place_of item) places
 
--- The commands of the item that the session has sent before a packet, modulo 128. Resets don't matter.
-unfoldable pub item_count : SystemItem → ℕ → List Sent → ℕ
-item_count item packet sent = item_total item (below packet_of packet sent) % 128
-
--- whether the packet before brought what is coded of the item
-abbrev pub item_fresh : SystemItem → ℕ → ℕ → List Sent → Bool
-item_fresh item from packet sent = list_any (is_fresh packet) (item_coded item from packet sent)
+-- their number modulo 128, over a whole session: resets don't matter
+unfoldable pub item_count : SystemItem → List Sent → ℕ
+item_count item session = item_total item session % 128

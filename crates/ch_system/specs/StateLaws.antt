@@ -1,11 +1,11 @@
 -- Where an item is coded, its state is there.
-use Rattle.std.proofs.Common.{◌≡◌, ℕ, Bool, true, false, cond, ◌||◌, ◌&&◌, List, [], ◌∷◌, Option, Some, None, fold, leb, refl, sym, ap, ◌∙◌, inl, inr}
+use Rattle.std.proofs.Common.{◌≡◌, ℕ, Bool, true, false, ◌||◌, ◌&&◌, List, [], ◌∷◌, Option, Some, None, fold, leb, refl, inl, inr}
 use Rattle.std.specs.List.{list_any, AllByRecursion, filter}
 use Rattle.std.specs.Option.{is_some}
 use Rattle.std.proofs.lemmas.Bool.{cases_Bool}
 use Rattle.jm_cmds.specs.declared.history.Sent.{Sent}
 use Rattle.jm_cmds.specs.Control.{is_reset}
-use Rattle.jm_cmds.specs.History.{standing, coded, below, since}
+use Rattle.jm_cmds.specs.History.{standing, below}
 use Rattle.jm_cmds.specs.HistoryLaws.{all_unended}
 use Rattle.jm_cmds.specs.Sent.{packet_of}
 use Rattle.ch_system.specs.declared.items.SystemItem.{SystemItem}

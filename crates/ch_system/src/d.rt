@@ -1,6 +1,6 @@
 //! Chapter D: System Reset, Tune Request and Song Select (RFC 6295, B.1).
 
-ghost use Rattle.std.specs.Prelude.{◌≡◌, ◌+◌, ◌≤◌, ◌<◌, [], ◌∷◌, ◌++◌, length};
+ghost use Rattle.std.specs.Prelude.{◌≡◌, ◌≤◌, ◌<◌, length};
 ghost use Rattle.jm_wire.specs.Octets.{Appends};
 ghost use Rattle.jm_cmds.specs.History.{InOrder};
 ghost use Rattle.jm_cmds.specs.Sent.{packet_of};
@@ -9,7 +9,7 @@ ghost use Rattle.ch_system.specs.ChapterD.{chapter_d, fresh_d, song_of, count_lo
 ghost use Rattle.ch_system.specs.Logs.{listed, bit_of, logs_head, logs_octets, logs_fresh};
 
 use crate::items::{SystemItem, coded_place, item_count};
-use jm_cmds::{Command, D7, Sent, s_of};
+use jm_cmds::{Command, D7, Sent, s_of, session_history};
 use jm_wire::Octets;
 
 /// The log of one item, where the item is coded.
@@ -120,7 +120,7 @@ fn count_log(list: &[Sent], item: SystemItem, from: u64, packet: u64) -> Log
             fresh: false,
         },
         Some(place) => Log {
-            octet: Some(place.s_bit(packet) + item_count(list, item, packet)),
+            octet: Some(place.s_bit(packet) + item_count(session_history(list, packet), item)),
             fresh: place.is_fresh(packet),
         },
     }

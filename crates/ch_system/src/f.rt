@@ -1,13 +1,13 @@
 //! Chapter F: MIDI Time Code (RFC 6295, B.4).
 
-ghost use Rattle.std.specs.Prelude.{◌≡◌, ◌+◌, ◌*◌, ◌≤◌, ◌<◌, length};
+ghost use Rattle.std.specs.Prelude.{◌≡◌, ◌≤◌, ◌<◌, length};
 ghost use Rattle.jm_wire.specs.Octets.{Appends};
 ghost use Rattle.jm_cmds.specs.History.{InOrder};
 ghost use Rattle.jm_cmds.specs.Sent.{packet_of};
 ghost use Rattle.ch_system.specs.ChapterF.{chapter_f, fresh_f, code_octets, word_octets};
 
 use crate::frames::{TimeCode, time_code_after};
-use crate::items::{SystemItem, coded_place};
+use crate::items::{SystemItem, coded_place, item_fresh};
 use jm_cmds::{Sent, session_history};
 use jm_wire::{Octets, TimeHead};
 
@@ -92,8 +92,5 @@ pub fn plain_fresh(list: &[Sent], from: u64, packet: u64) -> bool
     requires { InOrder packet_of list.now }
     ensures { result ≡ fresh_f from packet list.now }
 {
-    match coded_place(list, SystemItem::Frames, from, packet) {
-        None => false,
-        Some(place) => place.is_fresh(packet),
-    }
+    item_fresh(list, SystemItem::Frames, from, packet)
 }

@@ -1,11 +1,11 @@
 //! MIDI Time Code, as quarter frames spell it (RFC 6295, B.4).
 
-ghost use Rattle.std.specs.Prelude.{◌≡◌, ◌+◌, ◌*◌, ◌≤◌, ◌<◌, ◌^◌, [], ◌∷◌, length, fold, Some, None};
+ghost use Rattle.std.specs.Prelude.{◌≡◌, ◌<◌, None};
 ghost use Rattle.ch_system.specs.Frames.{frame_event, IsFrameEvent, IsTimeCode, set_nibble, time_code_from, restarted, advanced, is_next, framed, time_code_step, time_code_after};
 
 use jm_cmds::{Command, D7, Sent, first_place};
 
-/// What a command means for time code.
+/// What a command means for time code (RFC 6295, B.4).
 #[derive(Clone, Copy, PartialEq, Eq, Debug)]
 pub enum FrameEvent {
     /// A quarter frame. Its high three bits are the type, its low four a nibble of the time code.
@@ -25,11 +25,11 @@ pub struct TimeCode {
     pub partial: Option<u32>,
     /// The types fall.
     pub backward: bool,
-    /// The last type of the word that is being spelled; without one 7, or 0 where the types fall.
+    /// The last type of the word that is being spelled, 0 to 7; without one 7, or 0 where the types fall.
     pub point: u8,
 }
 
-/// What this command means for time code.
+/// What this command means for time code. A Reset State command drops its state.
 pub fn frame_event(command: &Command) -> FrameEvent
     ensures event { result ≡ frame_event command.now }
     ensures within { IsFrameEvent result }

@@ -1,14 +1,15 @@
 //! What the system chapters code: items, each by its latest command.
 
-ghost use Rattle.std.specs.Prelude.{◌≡◌, ◌+◌, ◌%◌, ◌<◌, ◌≤◌, [], ◌∷◌, Bool, MatchOption, length};
+ghost use Rattle.std.specs.Prelude.{◌≡◌, ◌<◌, [], ◌∷◌, MatchOption};
 ghost use Rattle.std.specs.List.{list_any};
 ghost use Rattle.jm_cmds.specs.History.{InOrder};
 ghost use Rattle.jm_cmds.specs.Sent.{packet_of};
 ghost use Rattle.ch_system.specs.Items.{is_of, item_ends, is_standing, item_standing, item_coded, item_count, item_fresh};
 
-use jm_cmds::{Command, Sent, checkpoint_history, first_place, session_history};
+use jm_cmds::{Command, Sent, checkpoint_history, first_place};
 
-/// What a system chapter codes: the latest command of these, as long as no Reset State command follows.
+/// What a system chapter codes: the latest command of these, as long as no Reset State command follows (RFC 6295, B.1
+/// to B.4).
 #[derive(Clone, Copy, PartialEq, Eq, Debug)]
 pub enum SystemItem {
     /// The System Reset (Chapter D).
@@ -82,12 +83,7 @@ fn standing_place(places: &[Sent], item: SystemItem) -> Option<&Sent>
 }
 
 /// The place that this packet's journal codes of the item, if there is one.
-pub(crate) fn coded_place(
-    list: &[Sent],
-    item: SystemItem,
-    from: u64,
-    packet: u64,
-) -> Option<&Sent>
+pub(crate) fn coded_place(list: &[Sent], item: SystemItem, from: u64, packet: u64) -> Option<&Sent>
     requires { InOrder packet_of list.now }
     ensures { MatchOption result (item_coded item from packet list.now ≡ [])
         (λ place. item_coded item from packet list.now ≡ place.now ∷ []) }
@@ -95,16 +91,25 @@ pub(crate) fn coded_place(
     standing_place(checkpoint_history(list, from, packet), item)
 }
 
-/// How many commands of the item the session has sent before this packet, modulo 128. A reset doesn't begin the
-/// count anew.
-#[tactic(auto, unfolding(crate::specs::Items::item_count))]
-pub(crate) fn item_count(list: &[Sent], item: SystemItem, packet: u64) -> u8
+/// Whether the packet before brought what this packet's journal codes of the item.
+pub(crate) fn item_fresh(list: &[Sent], item: SystemItem, from: u64, packet: u64) -> bool
     requires { InOrder packet_of list.now }
-    ensures count { result ≡ item_count item packet list.now }
+    ensures { result ≡ item_fresh item from packet list.now }
+{
+    match coded_place(list, item, from, packet) {
+        None => false,
+        Some(place) => place.is_fresh(packet),
+    }
+}
+
+/// How many commands of the item there are among these, modulo 128. A reset doesn't begin the count anew.
+#[tactic(auto, unfolding(crate::specs::Items::item_count))]
+pub(crate) fn item_count(session: &[Sent], item: SystemItem) -> u8
+    ensures count { result ≡ item_count item session.now }
     ensures bound { result < 128 }
 {
     let mut total: usize = 0;
-    let mut rest = session_history(list, packet);
+    let mut rest = session;
     while let Some((place, later)) = first_place(rest) {
         if is_of(&place.command, item) {
             total += 1;

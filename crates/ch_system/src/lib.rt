@@ -17,3 +17,6 @@ pub mod v;
 pub use frames::{FrameEvent, TimeCode, frame_event, time_code_after};
 pub use items::SystemItem;
 pub use sequencing::{Sequencer, SequencerEvent, sequencer_after, sequencer_event};
+
+#[cfg(test)]
+mod tests;

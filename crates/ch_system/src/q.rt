@@ -1,12 +1,12 @@
 //! Chapter Q: the sequencer (RFC 6295, B.3).
 
-ghost use Rattle.std.specs.Prelude.{◌≡◌, ◌+◌, ◌≤◌, ◌<◌, length};
+ghost use Rattle.std.specs.Prelude.{◌≡◌, ◌≤◌, ◌<◌, length};
 ghost use Rattle.jm_wire.specs.Octets.{Appends};
 ghost use Rattle.jm_cmds.specs.History.{InOrder};
 ghost use Rattle.jm_cmds.specs.Sent.{packet_of};
 ghost use Rattle.ch_system.specs.ChapterQ.{chapter_q, fresh_q, sequencer_octets};
 
-use crate::items::{SystemItem, coded_place};
+use crate::items::{SystemItem, coded_place, item_fresh};
 use crate::sequencing::{Sequencer, sequencer_after};
 use jm_cmds::{Sent, session_history};
 use jm_wire::{Octets, SeqHead};
@@ -74,8 +74,5 @@ pub fn plain_fresh(list: &[Sent], from: u64, packet: u64) -> bool
     requires { InOrder packet_of list.now }
     ensures { result ≡ fresh_q from packet list.now }
 {
-    match coded_place(list, SystemItem::Sequence, from, packet) {
-        None => false,
-        Some(place) => place.is_fresh(packet),
-    }
+    item_fresh(list, SystemItem::Sequence, from, packet)
 }

@@ -1,11 +1,11 @@
 //! The song position, as the commands of a session move it (RFC 6295, B.3).
 
-ghost use Rattle.std.specs.Prelude.{◌≡◌, ◌+◌, ◌*◌, ◌≤◌, ◌<◌, [], ◌∷◌, length, fold, Some, None};
+ghost use Rattle.std.specs.Prelude.{◌≡◌, ◌<◌, None};
 ghost use Rattle.ch_system.specs.Sequencing.{sequencer_event, IsSequencerEvent, IsSequencer, sequencer_from, clocked, turned, sequencer_step, sequencer_after};
 
 use jm_cmds::{Command, D14, Sent, first_place};
 
-/// What a command means for the sequencer.
+/// What a command means for the sequencer (RFC 6295, B.3).
 #[derive(Clone, Copy, PartialEq, Eq, Debug)]
 pub enum SequencerEvent {
     /// A clock, of which 24 are a quarter note.
@@ -31,11 +31,11 @@ pub struct Sequencer {
     pub running: bool,
     /// The position has been played: a clock came since it began to run.
     pub downbeat: bool,
-    /// The position, in clocks, modulo 2^19.
+    /// The position, in clocks modulo 2^19: 0 to 524,287.
     pub position: u32,
 }
 
-/// What this command means for the sequencer.
+/// What this command means for the sequencer. A Reset State command drops its state.
 pub fn sequencer_event(command: &Command) -> SequencerEvent
     ensures event { result ≡ sequencer_event command.now }
     ensures within { IsSequencerEvent result }

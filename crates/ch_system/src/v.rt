@@ -6,8 +6,8 @@ ghost use Rattle.jm_cmds.specs.History.{InOrder};
 ghost use Rattle.jm_cmds.specs.Sent.{packet_of};
 ghost use Rattle.ch_system.specs.ChapterV.{chapter_v, fresh_v};
 
-use crate::items::{SystemItem, coded_place, item_count};
-use jm_cmds::Sent;
+use crate::items::{SystemItem, coded_place, item_count, item_fresh};
+use jm_cmds::{Sent, session_history};
 use jm_wire::Octets;
 
 /// The number of Chapter V's octets in the journal of this packet: 1, or 0 where it isn't there.
@@ -36,7 +36,8 @@ pub fn plain_write(list: &[Sent], from: u64, packet: u64, tick: u64, out: &mut O
 {
     let _ = tick;
     if let Some(place) = coded_place(list, SystemItem::Sensing, from, packet) {
-        out.push(place.s_bit(packet) + item_count(list, SystemItem::Sensing, packet));
+        let count = item_count(session_history(list, packet), SystemItem::Sensing);
+        out.push(place.s_bit(packet) + count);
     }
 }
 
@@ -46,8 +47,5 @@ pub fn plain_fresh(list: &[Sent], from: u64, packet: u64) -> bool
     requires { InOrder packet_of list.now }
     ensures { result ≡ fresh_v from packet list.now }
 {
-    match coded_place(list, SystemItem::Sensing, from, packet) {
-        None => false,
-        Some(place) => place.is_fresh(packet),
-    }
+    item_fresh(list, SystemItem::Sensing, from, packet)
 }
