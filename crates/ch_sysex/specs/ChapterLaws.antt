@@ -1,17 +1,17 @@
 -- Chapter X one place at a time.
-use Rattle.std.proofs.Common.{◌≡◌, ℕ, ◌+◌, ◌-◌, ◌*◌, ◌%◌, ◌≤◌, Bool, true, false, cond, ◌&&◌, ◌||◌, leb, ltb, List, [], ◌∷◌, ◌++◌, length, take, get_or, suc, refl, sym, ap, ◌∙◌, arith, inl, inr, length-append}
+use Rattle.std.proofs.Common.{◌≡◌, ℕ, ◌+◌, ◌-◌, ◌≤◌, Bool, true, false, cond, ◌&&◌, ◌||◌, leb, ltb, List, [], ◌∷◌, ◌++◌, length, take, get_or, suc, refl, sym, ap, ◌∙◌, arith, inl, inr, length-append}
 use Rattle.std.specs.Prelude.{sum_by, count_by}
 use Rattle.std.specs.List.{flat_map, list_any}
 use Rattle.std.proofs.lemmas.Bool.{cases_Bool, le-leb}
 use Rattle.std.proofs.lemmas.List.Sums.{sum_by-cons}
 use Rattle.jm_cmds.specs.declared.history.Sent.{Sent}
-use Rattle.jm_cmds.specs.History.{coded, below, scanned}
+use Rattle.jm_cmds.specs.History.{below, scanned}
 use Rattle.jm_cmds.specs.HistoryLaws.{flat_map-coded, any-coded, any-scanned}
 use Rattle.jm_cmds.specs.Sent.{packet_of, is_fresh, s_bit}
 use Rattle.ch_sysex.specs.declared.events.SysexEvent.{SysexEvent}
 use Rattle.ch_sysex.specs.declared.events.SysexEvent.TheVariants.{Kept, ResetMessage, Reset, Other}
 use Rattle.ch_sysex.specs.SysexEvent.{event_at, data_of, is_logged, resets, sysex_ends, count_after, count_step}
-use Rattle.ch_sysex.specs.ChapterX.{last_marked, log_text, event_text, event_len, Counted, counted_packet, counted_ends, sysex_log, coded_counted, coded_sysex, is_fresh_log, has_log, log_len, chapter_x, sysex_octets}
+use Rattle.ch_sysex.specs.ChapterX.{last_marked, event_text, event_len, counted_packet, counted_ends, sysex_log, coded_counted, coded_sysex, is_fresh_log, has_log, log_len, chapter_x, sysex_octets}
 
 -- ## What is coded of a place
 

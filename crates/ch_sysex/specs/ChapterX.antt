@@ -1,5 +1,5 @@
 -- Chapter X (RFC 6295, B.5.1, Figure B.5.1).
-use Rattle.std.specs.Prelude.{ℕ, ◌+◌, ◌*◌, ◌%◌, Bool, true, false, ◌&&◌, List, [], ◌∷◌, length, count_by, sum_by}
+use Rattle.std.specs.Prelude.{ℕ, ◌+◌, ◌%◌, Bool, ◌&&◌, List, [], ◌∷◌, length, count_by, sum_by}
 use Rattle.std.specs.List.{list_any, flat_map}
 use Rattle.jm_cmds.specs.declared.history.Sent.{Sent}
 use Rattle.jm_cmds.specs.History.{coded, below, scanned}

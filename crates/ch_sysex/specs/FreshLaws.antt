@@ -1,15 +1,15 @@
 -- Chapter X shows by an S whether it is fresh.
-use Rattle.std.proofs.Common.{◌≡◌, ℕ, ◌+◌, ◌%◌, ◌≤◌, ◌<◌, Bool, true, false, cond, ◌&&◌, ◌||◌, ltb, leb, List, [], ◌∷◌, ◌++◌, map, refl, sym, ap, ◌∙◌, arith, inl, inr}
+use Rattle.std.proofs.Common.{◌≡◌, ℕ, ◌+◌, ◌%◌, ◌≤◌, Bool, true, false, cond, ◌||◌, leb, List, [], ◌∷◌, ◌++◌, map, refl, sym, ap, ◌∙◌, arith, inl, inr}
 use Rattle.std.specs.List.{flat_map, list_any, filter}
 use Rattle.std.proofs.lemmas.Bool.{cases_Bool, lt-ltb, le-ltb}
 use Rattle.jm_cmds.specs.declared.history.Sent.{Sent}
-use Rattle.jm_cmds.specs.History.{coded, below, scanned}
+use Rattle.jm_cmds.specs.History.{below, scanned}
 use Rattle.jm_cmds.specs.HistoryLaws.{any-coded, any-scanned}
 use Rattle.jm_cmds.specs.Sent.{packet_of, is_fresh, s_bit, s_of}
 use Rattle.ch_sysex.specs.declared.events.SysexEvent.{SysexEvent}
 use Rattle.ch_sysex.specs.declared.events.SysexEvent.TheVariants.{Kept, ResetMessage, Reset, Other}
 use Rattle.ch_sysex.specs.SysexEvent.{event_at, data_of, is_logged, sysex_ends, count_step}
-use Rattle.ch_sysex.specs.ChapterX.{d_bit, last_marked, event_text, Counted, counted_packet, counted_ends, sysex_log, coded_counted, coded_sysex, is_fresh_log, has_log, chapter_x, fresh_x}
+use Rattle.ch_sysex.specs.ChapterX.{d_bit, last_marked, event_text, Counted, counted_packet, counted_ends, sysex_log, coded_counted, coded_sysex, is_fresh_log, chapter_x, fresh_x}
 use Rattle.ch_sysex.specs.Fresh.{counted_log, logs_x, shows_fresh, IsOfLogs, FreshShows}
 
 -- ## The logs are the chapter

@@ -1,7 +1,5 @@
 -- How the size of Chapter X grows.
-use Rattle.std.proofs.Common.{◌≡◌, ◌≢◌, ℕ, ◌+◌, ◌≤◌, Bool, true, false, not, cond, ◌&&◌, List, [], ◌∷◌, ◌++◌, length, refl, sym, ap, ◌∙◌, arith, inl, inr, eqb}
-use Rattle.std.specs.Prelude.{sum_by, count_by}
-use Rattle.std.proofs.lemmas.Bool.{cases_Bool}
+use Rattle.std.proofs.Common.{◌≡◌, ℕ, ◌+◌, ◌≤◌, Bool, true, false, not, cond, ◌&&◌, List, [], ◌∷◌, ◌++◌, length, refl, ap, arith}
 use Rattle.jm_cmds.specs.declared.commands.Command.{Command}
 use Rattle.jm_cmds.specs.declared.commands.Command.TheVariants.{Sysex, SystemReset}
 use Rattle.jm_cmds.specs.declared.history.Sent.{Sent}
@@ -11,7 +9,7 @@ use Rattle.jm_cmds.specs.Sent.{packet_of}
 use Rattle.ch_sysex.specs.declared.events.SysexEvent.{SysexEvent}
 use Rattle.ch_sysex.specs.declared.events.SysexEvent.TheVariants.{Kept, ResetMessage, Reset, Other}
 use Rattle.ch_sysex.specs.SysexEvent.{sysex_event, event_at, data_of, is_logged, resets, sysex_ends}
-use Rattle.ch_sysex.specs.ChapterX.{event_len, has_log, log_len, coded_sysex, sysex_logs, sysex_octets}
+use Rattle.ch_sysex.specs.ChapterX.{event_len, has_log, log_len, sysex_logs, sysex_octets}
 
 abbrev one_log : Sent → ℕ
 one_log place = cond (has_log place) 1 0

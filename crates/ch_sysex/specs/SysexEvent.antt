@@ -1,5 +1,5 @@
 -- What a command means for Chapter X (RFC 6295, B.5).
-use Rattle.std.specs.Prelude.{ℕ, ◌+◌, ◌%◌, Bool, true, false, ◌&&◌, List, [], length, nat_le, if◌then◌else◌}
+use Rattle.std.specs.Prelude.{ℕ, ◌+◌, Bool, true, false, ◌&&◌, List, [], length, nat_le, if◌then◌else◌}
 use Rattle.jm_cmds.specs.declared.commands.Command.{Command}
 use Rattle.jm_cmds.specs.declared.commands.Command.TheVariants.{Sysex, SystemReset}
 use Rattle.jm_cmds.specs.declared.history.Sent.{Sent}

@@ -1,4 +1,3 @@
-use Rattle.std.proofs.Common.{ap, ◌∙◌}
 use Rattle.ch_sysex.specs.ChapterLaws.{coded-ended, coded-left}
 use Rattle.ch_sysex.proofs.coded.coded_event.Goals as goal
 

@@ -1,8 +1,5 @@
-use Rattle.std.proofs.Common.{◌≤◌, ap, sym, ◌∙◌, arith, length}
+use Rattle.std.proofs.Common.{ap, sym, ◌∙◌, arith, length}
 use Rattle.std.specs.Prelude.{sum_by}
-use Rattle.std.proofs.lemmas.List.Sums.{length-filter, count_by-le-length}
-use Rattle.jm_cmds.specs.History.{below}
-use Rattle.jm_cmds.specs.Sent.{packet_of}
 use Rattle.ch_sysex.specs.ChapterX.{sysex_octets, coded_sysex, log_len}
 use Rattle.ch_sysex.specs.ChapterLaws.{length-chapter_x, length-below}
 use Rattle.ch_sysex.proofs.x.plain_len.Goals as goal

@@ -1,4 +1,4 @@
-use Rattle.std.proofs.Common.{◌+◌, ◌≤◌, ap, arith, length, cond, ◌≡◌}
+use Rattle.std.proofs.Common.{ap, arith, length}
 use Rattle.std.specs.Prelude.{sum_by, count_by}
 use Rattle.ch_sysex.specs.ChapterX.{coded_sysex, has_log, log_len}
 use Rattle.ch_sysex.specs.ChapterLaws.{octets_more, logs_more}

@@ -1,7 +1,7 @@
-use Rattle.std.proofs.Common.{◌+◌, ◌≤◌, ◌++◌, List, ℕ, ap, subst, arith, length, length-append}
+use Rattle.std.proofs.Common.{◌++◌, List, ℕ, ap, subst, arith, length, length-append}
 use Rattle.std.specs.List.{flat_map}
 use Rattle.jm_wire.specs.Octets.{Owes, owes_less}
-use Rattle.ch_sysex.specs.SysexEvent.{count_step, count_after}
+use Rattle.ch_sysex.specs.SysexEvent.{count_step}
 use Rattle.ch_sysex.specs.ChapterX.{sysex_log, coded_counted, event_text}
 use Rattle.ch_sysex.specs.ChapterLaws.{text_more, length-event_text, count-small}
 use Rattle.ch_sysex.proofs.x.write_logs.Goals as goal
