@@ -1,0 +1,12 @@
+pub mod Param
+pub mod Selection
+pub mod Event
+pub mod ChapterM
+pub mod Fresh
+pub mod WalkLaws
+pub mod HalfLaws
+pub mod LogLaws
+pub mod FreshLaws
+pub mod Later
+pub mod LaterLaws
+pub mod Limits

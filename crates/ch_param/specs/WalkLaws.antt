@@ -1,0 +1,69 @@
+-- The coded parameters, one place of the history after another.
+use Rattle.std.proofs.Common.{◌≡◌, ℕ, ◌<◌, Bool, true, false, cond, leb, List, ◌∷◌, Option, Some, None, length, refl, ap, ◌∙◌, inl, inr}
+use Rattle.std.specs.List.{list_any, filter_map, cons_option}
+use Rattle.std.proofs.lemmas.Bool.{cases_Bool}
+use Rattle.jm_cmds.specs.declared.history.Sent.{Sent}
+use Rattle.jm_cmds.specs.History.{coded}
+use Rattle.ch_param.specs.declared.param.Param.{Param}
+use Rattle.ch_param.specs.declared.selection.Selection.{Selection}
+use Rattle.ch_param.specs.declared.events.ParamEvent.{ParamEvent}
+use Rattle.ch_param.specs.declared.events.ParamEvent.TheVariants.{Entry, Cleared, Other}
+use Rattle.ch_param.specs.Event.{Place, selection_step, placed, packet_at, event_at, takes_param, param_event_ends, param_ends}
+use Rattle.ch_param.specs.ChapterM.{Entered, entered, entered_at, entered_by, event_param}
+
+-- the parameter of this event, unless one of the later places enters it again or clears it
+abbrev pub lasting_param : ℕ → ParamEvent → List Place → Option Param
+lasting_param channel (Entry param high value) later =
+    cond (list_any (λ place. takes_param param (event_at channel place)) later) None (Some param)
+lasting_param channel Cleared later = None
+lasting_param channel Other later = None
+
+-- the parameter whose latest entry is this place, where it is coded
+abbrev pub coded_param : ℕ → ℕ → Place → List Place → Option Param
+coded_param channel from place later = cond (leb from (packet_at place)) (lasting_param channel (event_at channel place) later) None
+
+-- the next coded parameter of a walk over places, of which there are so many
+pub record IsNext (channel from : ℕ) (places : List Place) (count : ℕ) (param : Param) (latest : Sent) (selection : Selection) (later : List Sent) : Type 0 where
+  pub next : entered channel from places ≡ record { param = param; latest = latest } ∷ entered channel from (placed channel selection later)
+  pub fewer : length later < count
+
+filter_map-coded : {X Y : Type 0} (ends : X → X → Bool) (at : X → ℕ) (from : ℕ) (f : X → Option Y) (x : X) (xs : List X) →
+    filter_map f (coded ends at from (x ∷ xs)) ≡ cons_option (cond (list_any (ends x) xs) None (cond (leb from (at x)) (f x) None)) (filter_map f (coded ends at from xs))
+filter_map-coded ends at from f x xs =
+    elim (cases_Bool (list_any (ends x) xs)) [
+      | inl t ↦ rw t refl
+      | inr n ↦ elim (cases_Bool (leb from (at x))) [ inl l ↦ rw (n, l) refl | inr o ↦ rw (n, o) refl ]
+    ]
+
+no_entry : (sent : Sent) (ended is_coded : Bool) → cond ended None (cond is_coded (entered_by sent None) None) ≡ entered_by sent (cond is_coded None None)
+no_entry sent true true = refl
+no_entry sent true false = refl
+no_entry sent false true = refl
+no_entry sent false false = refl
+
+an_entry : (sent : Sent) (param : Param) (ended is_coded : Bool) → cond ended None (cond is_coded (entered_by sent (Some param)) None) ≡ entered_by sent (cond is_coded (cond ended None (Some param)) None)
+an_entry sent param true true = refl
+an_entry sent param true false = refl
+an_entry sent param false true = refl
+an_entry sent param false false = refl
+
+lasting : (channel : ℕ) (sent : Sent) (is_coded : Bool) (event : ParamEvent) (later : List Place) →
+    cond (list_any (λ place. param_event_ends event (event_at channel place)) later) None (cond is_coded (entered_by sent (event_param event)) None)
+    ≡ entered_by sent (cond is_coded (lasting_param channel event later) None)
+lasting channel sent is_coded (Entry param high value) later = an_entry sent param (list_any (λ place. takes_param param (event_at channel place)) later) is_coded
+lasting channel sent is_coded Cleared later = no_entry sent (list_any (λ place. param_event_ends Cleared (event_at channel place)) later) is_coded
+lasting channel sent is_coded Other later = no_entry sent (list_any (λ place. param_event_ends Other (event_at channel place)) later) is_coded
+
+-- one place more of the places that a walk has before it
+pub entered_more : (channel from : ℕ) (place : Place) (later : List Place) →
+    entered channel from (place ∷ later) ≡ cons_option (entered_by place.1 (coded_param channel from place later)) (entered channel from later)
+entered_more channel from place later =
+    filter_map-coded (param_ends channel) packet_at from (entered_at channel) place later
+    ∙ ap (λ (e : Option Entered). cons_option e (entered channel from later)) (lasting channel place.1 (leb from (packet_at place)) (event_at channel place) later)
+
+-- the same, where a walk has come to this place
+pub entered_on : (channel from : ℕ) (selection behind : Selection) (rest : List Sent) (place : Sent) (later : List Sent) (found : Option Param) →
+    rest ≡ place ∷ later → behind ≡ selection_step channel selection place → found ≡ coded_param channel from (selection, place) (placed channel (selection_step channel selection place) later) →
+    entered channel from (placed channel selection rest) ≡ cons_option (entered_by place found) (entered channel from (placed channel behind later))
+entered_on channel from selection behind rest place later found r b f =
+    rw (r, b, f) (entered_more channel from (selection, place) (placed channel (selection_step channel selection place) later))

@@ -1,0 +1,21 @@
+//! Chapter M of the recovery journal: parameters and the values that were entered for them (RFC 6295, A.4).
+//!
+//! Module `m` has the plain functions of the chapter. They look at the list of all sent commands, keep
+//! nothing and take no memory.
+#![tactic(auto)]
+
+mod events;
+mod halves;
+pub mod laws;
+mod logs;
+pub mod m;
+mod param;
+mod selection;
+mod walk;
+
+pub use events::ParamEvent;
+pub use param::Param;
+pub use selection::{ParamCommand, Selection, param_command};
+
+#[cfg(test)]
+mod tests;

@@ -1,0 +1,6 @@
+pub mod SysexEvent
+pub mod ChapterX
+pub mod ChapterLaws
+pub mod Limits
+pub mod Fresh
+pub mod FreshLaws

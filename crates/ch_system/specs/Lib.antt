@@ -1,0 +1,14 @@
+pub mod Items
+pub mod ItemLaws
+pub mod ChapterD
+pub mod Logs
+pub mod ChapterV
+pub mod Sequencing
+pub mod ChapterQ
+pub mod Frames
+pub mod ChapterF
+pub mod Fresh
+pub mod StateLaws
+pub mod SequencingLaws
+pub mod FrameLaws
+pub mod FreshLaws

@@ -1,0 +1,22 @@
+//! Chapters of the recovery journal that speak of no channel (RFC 6295, B.1 to B.4).
+//!
+//! Each module has the plain functions of one chapter: `d` of resets, tunings and songs, `v` of active sensing, `q`
+//! of the sequencer and `f` of time code. They look at the list of all sent commands, keep nothing and take no
+//! memory.
+#![tactic(auto)]
+
+pub mod d;
+pub mod f;
+mod frames;
+mod items;
+pub mod laws;
+pub mod q;
+mod sequencing;
+pub mod v;
+
+pub use frames::{FrameEvent, TimeCode, frame_event, time_code_after};
+pub use items::SystemItem;
+pub use sequencing::{Sequencer, SequencerEvent, sequencer_after, sequencer_event};
+
+#[cfg(test)]
+mod tests;

@@ -1,0 +1,226 @@
+-- What fits keeps the limits, and a later checkpoint does too.
+use Rattle.std.proofs.Common.{◌≡◌, ℕ, ◌+◌, ◌≤◌, ◌<◌, Bool, true, false, ◌||◌, ◌&&◌, List, [], ◌∷◌, ◌++◌, Option, Some, None, length, refl, sym, ap, ◌∙◌, arith, inl, inr}
+use Rattle.std.specs.Prelude.{nat_lt, nat_le, ◌==◌, if◌then◌else◌}
+use Rattle.std.proofs.lemmas.Bool.{cases_Bool, eqb-true, or_cases, ltb-true, leb-true, le-ltb}
+use Rattle.jm_cmds.specs.declared.commands.Command.{Command}
+use Rattle.jm_cmds.specs.declared.commands.Command.TheVariants.{Control, PolyPressure, Sysex, SystemReset}
+use Rattle.jm_cmds.specs.declared.history.Sent.{Sent}
+use Rattle.jm_cmds.specs.Control.{is_reset, is_reset_message, ends_controllers}
+use Rattle.ch_param.specs.Selection.{is_data_entry}
+use Rattle.ch_param.specs.ChapterM.{param_count, has_param, selected}
+use Rattle.ch_param.specs.Limits.{param_count-push, param_count-other, param_count-unselected, param_count-met, param_count-later, param_count-none}
+use Rattle.ch_notes.specs.ChapterA.{poly_count, has_poly}
+use Rattle.ch_notes.specs.PolyEvent.{poly_key, pressed_note}
+use Rattle.ch_notes.specs.declared.presses.PolyEvent.TheVariants.{Dropped, Other as Unpressed}
+use Rattle.ch_notes.specs.PolyLimits.{poly_count-push, poly_count-other, poly_count-met, poly_count-later}
+use Rattle.ch_sysex.specs.declared.events.SysexEvent.{SysexEvent}
+use Rattle.ch_sysex.specs.declared.events.SysexEvent.TheVariants.{Kept, ResetMessage, Reset, Other}
+use Rattle.ch_sysex.specs.SysexEvent.{sysex_event, data_of}
+use Rattle.ch_sysex.specs.ChapterX.{sysex_logs, sysex_octets}
+use Rattle.ch_sysex.specs.Limits.{sysex_logs-kept, sysex_octets-kept, sysex_logs-other, sysex_octets-other, sysex_logs-reset-le, sysex_octets-reset-le, sysex_logs-later, sysex_octets-later}
+use Rattle.jm_journal.specs.declared.fits.Fit.{Fit}
+use Rattle.jm_journal.specs.declared.fits.Fit.TheVariants.{Yes, ParamsFull, PolyFull, SysexFull}
+use Rattle.jm_journal.specs.Limits.{KeepsLimits, is_entry, entry_fit, poly_fit, sysex_fit, fit_of}
+
+-- a test came out true where all but one answer is Yes
+yes_came : (test : Bool) (other : Fit) → (other ≡ Yes → ⊥) → (if test then Yes else other) ≡ Yes → test ≡ true
+yes_came true other never h = refl
+yes_came false other never h = absurd (never h)
+
+params_apart : (channel kept : ℕ) → ParamsFull channel kept ≡ Yes → ⊥
+params_apart channel kept h = cc
+
+poly_apart : (channel kept : ℕ) → PolyFull channel kept ≡ Yes → ⊥
+poly_apart channel kept h = cc
+
+sysex_apart : (logs octets : ℕ) → SysexFull logs octets ≡ Yes → ⊥
+sysex_apart logs octets h = cc
+
+both_true : (a b : Bool) → (a && b) ≡ true → (a ≡ true) × (b ≡ true)
+both_true true true h = (refl, refl)
+both_true true false h = absurd cc
+both_true false b h = absurd cc
+
+-- ## Parameters
+
+record IsEntry (channel : ℕ) (command : Command) : Type 0 where
+  number : ℕ
+  value : ℕ
+  is : command ≡ Control channel number value
+  entry : is_entry number ≡ true
+
+entry_is : (channel : ℕ) (command : Command) → is_data_entry channel command ≡ true → IsEntry channel command
+entry_is channel (Control at number value) h =
+    let both = both_true (at == channel) (number == 6 || number == 38) h in
+    let same : at ≡ channel = eqb-true at channel both.0 in
+    record { number = number; value = value; is = ap (λ (c : ℕ). Control c number value) same; entry = both.1 }
+entry_is channel command h = cc
+
+entry_keeps : (channel from : ℕ) (sent : List Sent) (x : Sent) (found : Option (Bool × ℕ × ℕ)) → from ≤ x.packet → selected channel sent ≡ found → entry_fit channel from sent found ≡ Yes
+    → param_count channel from sent ≤ 16 → param_count channel from (sent ++ x ∷ []) ≤ 16
+entry_keeps channel from sent x None l is fit few = let less = param_count-unselected channel from sent x l is in omega (arith, less, few)
+entry_keeps channel from sent x (Some parameter) l is fit few =
+    let count = param_count channel from sent in
+    elim (or_cases (nat_lt count 16) (has_param channel from parameter.0 parameter.1 parameter.2 sent) (yes_came (nat_lt count 16 || has_param channel from parameter.0 parameter.1 parameter.2 sent) (ParamsFull channel count) (params_apart channel count) fit)) [
+      | inl t ↦ let under : count < 16 = ltb-true count 16 t in let more = param_count-push channel from sent x l in omega (arith, under, more)
+      | inr t ↦ let less = param_count-met channel from sent x parameter.0 parameter.1 parameter.2 l is t in omega (arith, less, few)
+    ]
+
+params_keep : (channel from : ℕ) (sent : List Sent) (x : Sent) → from ≤ x.packet → fit_of from sent x.command ≡ Yes → param_count channel from sent ≤ 16 → param_count channel from (sent ++ x ∷ []) ≤ 16
+unfolding fit_of
+params_keep channel from sent x l fit few =
+    elim (cases_Bool (is_data_entry channel x.command)) [
+      | inl t ↦
+          let e = entry_is channel x.command t in
+          let there : entry_fit channel from sent (selected channel sent) ≡ Yes = rw e.entry at (rw e.is at fit) in
+          entry_keeps channel from sent x (selected channel sent) l refl there few
+      | inr f ↦ let less = param_count-other channel from sent x l f in omega (arith, less, few)
+    ]
+
+-- ## Notes' pressures
+
+none_some : (k : ℕ) → None ≡ Some k → ⊥
+none_some k e = cc
+
+record IsPressure (channel note : ℕ) (command : Command) : Type 0 where
+  value : ℕ
+  is : command ≡ PolyPressure channel note value
+
+pressure_is : (channel note packet tick : ℕ) (command : Command) → poly_key channel (record { packet = packet; tick = tick; command = command }) ≡ Some note → IsPressure channel note command
+pressure_is channel note packet tick (PolyPressure at other value) h =
+    elim (cases_Bool (at == channel)) [
+      | inl t ↦
+          let same : at ≡ channel = eqb-true at channel t in
+          let is : Some other ≡ Some note = rw t at h in
+          let noted : other ≡ note = cc in
+          record { value = value; is = rw (same, noted) refl }
+      | inr f ↦ let none : None ≡ Some note = rw f at h in absurd cc
+    ]
+pressure_is channel note packet tick command h = unpressed (ends_controllers channel command) h
+  where
+    unpressed : (b : Bool) → pressed_note (if b then Dropped else Unpressed) ≡ Some note → IsPressure channel note command
+    unpressed true e = absurd (none_some note e)
+    unpressed false e = absurd (none_some note e)
+
+notes_keep : (channel from : ℕ) (sent : List Sent) (x : Sent) (key : Option ℕ) → from ≤ x.packet → poly_key channel x ≡ key → fit_of from sent x.command ≡ Yes → poly_count channel from sent ≤ 64 → poly_count channel from (sent ++ x ∷ []) ≤ 64
+unfolding fit_of
+notes_keep channel from sent x None l is fit few = let less = poly_count-other channel from sent x l is in omega (arith, less, few)
+notes_keep channel from sent x (Some note) l is fit few =
+    let count = poly_count channel from sent in
+    let e = pressure_is channel note x.packet x.tick x.command is in
+    let there : poly_fit channel note from sent ≡ Yes = rw e.is at fit in
+    elim (or_cases (nat_lt count 64) (has_poly channel from note sent) (yes_came (nat_lt count 64 || has_poly channel from note sent) (PolyFull channel count) (poly_apart channel count) there)) [
+      | inl t ↦ let under : count < 64 = ltb-true count 64 t in let more = poly_count-push channel from sent x l in omega (arith, under, more)
+      | inr t ↦ let less = poly_count-met channel from note sent x l is t in omega (arith, less, few)
+    ]
+
+-- ## System Exclusive messages
+
+record IsKeptSysex (command : Command) : Type 0 where
+  octets : List ℕ
+  is : command ≡ Sysex octets
+  plain : is_reset_message octets ≡ false
+  short : length octets ≤ 254
+
+kept_is : (command : Command) → sysex_event command ≡ Kept → IsKeptSysex command
+kept_is (Sysex octets) h =
+    elim (cases_Bool (is_reset_message octets)) [
+      | inl t ↦ let wrong : ResetMessage ≡ Kept = rw t at h in absurd cc
+      | inr f ↦ elim (cases_Bool (nat_le (length octets) 254)) [
+        | inl s ↦ record { octets = octets; is = refl; plain = f; short = leb-true (length octets) 254 s }
+        | inr n ↦ let wrong : Other ≡ Kept = rw (f, n) at h in absurd cc
+      ]
+    ]
+kept_is command h = cc
+
+reset_is : (command : Command) → sysex_event command ≡ ResetMessage → is_reset command ≡ true
+reset_is (Sysex octets) h =
+    elim (cases_Bool (is_reset_message octets)) [
+      | inl t ↦ t
+      | inr f ↦ elim (cases_Bool (nat_le (length octets) 254)) [
+        | inl s ↦ let wrong : Kept ≡ ResetMessage = rw (f, s) at h in absurd cc
+        | inr n ↦ let wrong : Other ≡ ResetMessage = rw (f, n) at h in absurd cc
+      ]
+    ]
+reset_is command h = cc
+
+system_reset_is : (command : Command) → sysex_event command ≡ Reset → is_reset command ≡ true
+system_reset_is (Sysex octets) h =
+    elim (cases_Bool (is_reset_message octets)) [
+      | inl t ↦ t
+      | inr f ↦ elim (cases_Bool (nat_le (length octets) 254)) [
+        | inl s ↦ let wrong : Kept ≡ Reset = rw (f, s) at h in absurd cc
+        | inr n ↦ let wrong : Other ≡ Reset = rw (f, n) at h in absurd cc
+      ]
+    ]
+system_reset_is SystemReset h = refl
+system_reset_is command h = cc
+
+record HasRoom (from : ℕ) (sent : List Sent) : Type 0 where
+  logs : sysex_logs from sent ≤ 128
+  octets : sysex_octets from sent ≤ 1000
+
+kept_keeps : (from : ℕ) (sent : List Sent) (x : Sent) → from ≤ x.packet → sysex_event x.command ≡ Kept → fit_of from sent x.command ≡ Yes → HasRoom from (sent ++ x ∷ [])
+unfolding fit_of
+kept_keeps from sent x l event fit =
+    let e = kept_is x.command event in
+    let short = e.short in
+    let logs = sysex_logs from sent in
+    let size = sysex_octets from sent in
+    let test = nat_lt logs 128 && nat_le (size + (2 + length e.octets)) 1000 in
+    let long : nat_lt 254 (length e.octets) ≡ false = le-ltb 254 (length e.octets) short in
+    let there : (if test then Yes else SysexFull logs size) ≡ Yes = rw (e.is, long, e.plain) at fit in
+    let both = both_true (nat_lt logs 128) (nat_le (size + (2 + length e.octets)) 1000) (yes_came test (SysexFull logs size) (sysex_apart logs size) there) in
+    let under : logs < 128 = ltb-true logs 128 both.0 in
+    let within : size + (2 + length e.octets) ≤ 1000 = leb-true (size + (2 + length e.octets)) 1000 both.1 in
+    let told : length (data_of x.command) ≡ length e.octets = ap (λ (k : Command). length (data_of k)) e.is in
+    let more_logs = sysex_logs-kept from sent x l event in
+    let more_octets = sysex_octets-kept from sent x l event in
+    record { logs = omega (arith, under, more_logs); octets = omega (arith, within, more_octets, told) }
+
+reset_keeps : (from : ℕ) (sent : List Sent) (x : Sent) → from ≤ x.packet → is_reset x.command ≡ true → HasRoom from (sent ++ x ∷ [])
+reset_keeps from sent x l r =
+    let logs = sysex_logs-reset-le from sent x l r in
+    let octets = sysex_octets-reset-le from sent x l r in
+    record { logs = omega (arith, logs); octets = omega (arith, octets) }
+
+room_keeps : (from : ℕ) (sent : List Sent) (x : Sent) (event : SysexEvent) → from ≤ x.packet → sysex_event x.command ≡ event → fit_of from sent x.command ≡ Yes → HasRoom from sent → HasRoom from (sent ++ x ∷ [])
+room_keeps from sent x Kept l event fit room = kept_keeps from sent x l event fit
+room_keeps from sent x ResetMessage l event fit room = reset_keeps from sent x l (reset_is x.command event)
+room_keeps from sent x Reset l event fit room = reset_keeps from sent x l (system_reset_is x.command event)
+room_keeps from sent x Other l event fit room =
+    let logs = sysex_logs-other from sent x l (rw event refl) in
+    let octets = sysex_octets-other from sent x l (rw event refl) in
+    record { logs = omega (arith, logs, room.logs); octets = omega (arith, octets, room.octets) }
+
+-- ## All limits
+
+-- One more command that fits keeps them.
+pub limits_push : (from : ℕ) (sent : List Sent) (x : Sent) → from ≤ x.packet → fit_of from sent x.command ≡ Yes → KeepsLimits from sent → KeepsLimits from (sent ++ x ∷ [])
+limits_push from sent x l fit keeps =
+    let room = room_keeps from sent x (sysex_event x.command) l refl fit (record { logs = keeps.logs; octets = keeps.octets }) in
+    record {
+      params = λ channel c. params_keep channel from sent x l fit (keeps.params channel c);
+      notes = λ channel c. notes_keep channel from sent x (poly_key channel x) l refl fit (keeps.notes channel c);
+      logs = room.logs;
+      octets = room.octets;
+    }
+
+-- A later checkpoint keeps them.
+pub limits_later : (from later : ℕ) (sent : List Sent) → from ≤ later → KeepsLimits from sent → KeepsLimits later sent
+limits_later from later sent l keeps = record {
+  params = λ channel c. let less = param_count-later channel from later sent l in let few = keeps.params channel c in omega (arith, less, few);
+  notes = λ channel c. let less = poly_count-later channel from later sent l in let few = keeps.notes channel c in omega (arith, less, few);
+  logs = let less = sysex_logs-later from later sent l in omega (arith, less, keeps.logs);
+  octets = let less = sysex_octets-later from later sent l in omega (arith, less, keeps.octets);
+}
+
+-- No commands keep them.
+pub limits_none : (from : ℕ) → KeepsLimits from []
+unfolding poly_count sysex_logs sysex_octets
+limits_none from = record {
+  params = λ channel c. let none = param_count-none channel from in omega (arith, none);
+  notes = λ channel c. omega arith;
+  logs = omega arith;
+  octets = omega arith;
+}
