@@ -1,17 +1,13 @@
 -- One more pending command: its place in the plain list, and what it adds to the MIDI list.
 use Rattle.std.proofs.Common.{ℕ, ◌≡◌, ◌+◌, ◌-◌, ◌<◌, ◌≤◌, ◌^◌, refl, ap, sym, Bool, true, false, List, [], ◌∷◌, ◌++◌, length, arith, append_assoc}
-use Rattle.std.proofs.lemmas.List.{append-nil}
 use Rattle.std.proofs.lemmas.Bool.Decides.{nat_tests}
 use Rattle.std.specs.Prelude.{nat_lt}
 use Rattle.jm_book.proofs.Outcomes.{and_true}
 use Rattle.jm_cmds.specs.declared.history.Sent.{Sent}
-use Rattle.jm_section.specs.declared.next.Place.{Place}
 use Rattle.jm_section.specs.declared.next.Place.TheVariants.{First}
-use Rattle.std.proofs.Common.{◌/◌, ◌%◌}
-use Rattle.std.specs.Prelude.{if◌then◌else◌}
-use Rattle.jm_section.specs.Section.{header as section_header}
-use Rattle.jm_section.specs.Section.{Timed, piece, pieces, place_after, list_text}
-use Rattle.jm_book.specs.Pending.{timed_after, timed_of, first_tick, last_tick, place_through, have_fields}
+use Rattle.jm_section.specs.Section.{Timed, piece, list_text}
+use Rattle.jm_section.specs.Pieces.{place_behind, pieces-push}
+use Rattle.jm_book.specs.Pending.{timed_after, timed_of, first_tick, last_tick, have_fields}
 use Rattle.jm_book.specs.Session.{Entry, packet_tick, as_sent}
 
 pub last_tick_push : (other : ℕ) (sent : List Sent) (one : Sent) → last_tick other (sent ++ one ∷ []) ≡ one.tick
@@ -27,15 +23,6 @@ pub timed_of_push : (sent : List Sent) (one : Sent) → timed_of (sent ++ one �
 timed_of_push [] one = refl
 timed_of_push (first ∷ others) one = timed_after_push first.tick (first ∷ others) one
 
-pub pieces_push : (place : Place) (timed : List Timed) (one : Timed) → pieces place (timed ++ one ∷ []) ≡ pieces place timed ++ piece (place_through place timed) one
-pieces_push place [] one = append-nil (piece place one)
-pieces_push place (first ∷ others) one =
-    rw (pieces_push (place_after place first.command) others one) (sym (append_assoc (piece place first) (pieces (place_after place first.command) others) (piece (place_through (place_after place first.command) others) one)))
-
-pub place_through_push : (place : Place) (timed : List Timed) (one : Timed) → place_through place (timed ++ one ∷ []) ≡ place_after (place_through place timed) one.command
-place_through_push place [] one = refl
-place_through_push place (first ∷ others) one = place_through_push (place_after place first.command) others one
-
 pub last_tick_any : (other another : ℕ) (sent : List Sent) → 0 < length sent → last_tick other sent ≡ last_tick another sent
 last_tick_any other another [] some = absurd (omega arith)
 last_tick_any other another (first ∷ others) some = refl
@@ -47,9 +34,9 @@ have_fields_push (first ∷ others) one all last =
     rw (split.0, have_fields_push others one split.1 last) refl
 
 -- the text with one more command
-pub list_text_push : (sent : List Sent) (one : Sent) → list_text (timed_of (sent ++ one ∷ [])) ≡ list_text (timed_of sent) ++ piece (place_through First (timed_of sent)) record { delta = one.tick - last_tick one.tick sent; command = one.command }
+pub list_text_push : (sent : List Sent) (one : Sent) → list_text (timed_of (sent ++ one ∷ [])) ≡ list_text (timed_of sent) ++ piece (place_behind First (timed_of sent)) record { delta = one.tick - last_tick one.tick sent; command = one.command }
 list_text_push sent one =
-    rw (timed_of_push sent one) (pieces_push First (timed_of sent) record { delta = one.tick - last_tick one.tick sent; command = one.command })
+    rw (timed_of_push sent one) (pieces-push First (timed_of sent) record { delta = one.tick - last_tick one.tick sent; command = one.command })
 
 pub timed_of_is : (other : ℕ) (sent : List Sent) → timed_of sent ≡ timed_after (first_tick other sent) sent
 timed_of_is other [] = refl
@@ -58,10 +45,3 @@ timed_of_is other (first ∷ others) = refl
 pub packet_tick_is : (packet tick : ℕ) (entries : List Entry) → packet_tick entries tick ≡ first_tick tick (as_sent packet entries)
 packet_tick_is packet tick [] = refl
 packet_tick_is packet tick (first ∷ others) = refl
-
-pub length_section_header : (len : ℕ) (journal : Bool) → length (section_header len journal) ≤ 2
-unfolding section_header
-length_section_header len journal = elim (nat_lt len 16) as (λ b. length (if b then ((if journal then 0x40 else 0) + len) ∷ [] else ((0x80 + (if journal then 0x40 else 0) + len / 256) ∷ (len % 256) ∷ [])) ≤ 2) [
-  | true ↦ omega arith
-  | false ↦ omega arith
-]

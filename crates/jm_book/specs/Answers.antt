@@ -18,9 +18,12 @@ use Rattle.jm_book.specs.declared.answers.Acked.{Acked}
 use Rattle.jm_book.specs.declared.answers.Acked.TheVariants as acked
 use Rattle.jm_book.specs.declared.answers.Joined.{Joined}
 use Rattle.jm_book.specs.declared.answers.Joined.TheVariants as joined
-use Rattle.jm_book.specs.Session.{Session, session_of, find_joined, has_slot, free_slot, distance, last_sent, tick_after, slowest, checkpoint_of, pending_of}
+use Rattle.jm_book.specs.Session.{Session, session_of, find_joined, has_slot, free_slot, distance, last_sent, tick_after, slowest, checkpoint_of, sent_of, pending_of}
 use Rattle.jm_book.specs.Pending.{timed_of, last_tick}
 use Rattle.jm_section.specs.Section.{list_text}
+use Rattle.jm_journal.specs.declared.fits.Fit.{Fit}
+use Rattle.jm_journal.specs.declared.fits.Fit.TheVariants as fit
+use Rattle.jm_journal.specs.Limits.{fit_of}
 
 -- the tape has as many steps as the session was made for
 abbrev pub is_full : Config → List Step → Bool
@@ -62,12 +65,31 @@ needs_cut session command tick =
     || nat_lt 4095 (list_with session command tick)
     || nat_lt 0x0FFFFFFF (delta_with session tick)
 
+-- a command that doesn't fit behind the sent and pending ones, were they all sent
+abbrev pub fit_refusal : Fit → Option PlayFault
+fit_refusal fit.Yes = None
+fit_refusal (fit.ParamsFull channel kept) = Some (refusal.ParamsFull channel kept)
+fit_refusal (fit.PolyFull channel kept) = Some (refusal.PolyFull channel kept)
+fit_refusal (fit.SysexFull logs octets) = Some (refusal.SysexFull logs octets)
+
+abbrev pub fit_after : Session → Command → Fit
+fit_after session command = fit_of (checkpoint_of session) (sent_of session ++ pending_of session) command
+
+-- the first of two refusals that comes
+abbrev pub or_else : Option PlayFault → Option PlayFault → Option PlayFault
+or_else (Some why) other = Some why
+or_else None other = other
+
+abbrev pub cut_refusal : Session → Command → ℕ → Option PlayFault
+cut_refusal session command tick =
+    if needs_cut session command tick then Some (refusal.NeedsCut (length session.pending) (list_with session command tick) (delta_with session tick))
+    else None
+
 abbrev pub play_refusal : Config → List Step → ℕ → Command → ℕ → Option PlayFault
 play_refusal config steps player command tick =
     if not (is_known (session_of steps) player) then Some refusal.UnknownPlayer
     else if is_full config steps then Some (refusal.RecordFull config.events)
-    else if needs_cut (session_of steps) command tick then Some (refusal.NeedsCut (length (session_of steps).pending) (list_with (session_of steps) command tick) (delta_with (session_of steps) tick))
-    else None
+    else or_else (fit_refusal (fit_after (session_of steps) command)) (cut_refusal (session_of steps) command tick)
 
 -- a SysEx of over 254 data octets is sent and not kept for repair
 abbrev pub is_kept : Command → Bool

@@ -11,6 +11,7 @@ use Rattle.jm_book.specs.Book.{Told, Takes}
 use Rattle.jm_book.specs.Marks.{Advances, Enters}
 use Rattle.jm_book.specs.JoinedLaws.{ssrcs_of, slots_of}
 use Rattle.jm_book.specs.Legal.{IsTaken, IsLegal}
+use Rattle.jm_book.specs.Limited.{KeepsBoth}
 use Rattle.jm_book.specs.Plays.{play_count, greatest_tick, plays_of, played_by, entries_of, sent_pair, entry_pair}
 
 -- Packet numbers never fall along the sent commands, nor along those and the pending ones.
@@ -85,3 +86,7 @@ ReportsAdvance = (config : Config) (steps : List Step) (ssrc seq : ℕ) → seq 
 -- A joiner's mark is the last sent packet, or 0 where none was sent.
 abbrev pub JoinsAtLast : Type 0
 JoinsAtLast = (config : Config) (steps : List Step) (ssrc : ℕ) → IsTaken config steps (Join ssrc) → Enters (session_of (steps ++ Join ssrc ∷ [])) ssrc
+
+-- After legal steps what is coded keeps the journal's limits, also were all pending commands sent.
+abbrev pub KeepsTheLimits : Type 0
+KeepsTheLimits = (config : Config) (steps : List Step) → IsLegal config steps → KeepsBoth (session_of steps)

@@ -15,7 +15,7 @@ use Rattle.jm_book.specs.Answers.{most_joined}
 use Rattle.jm_book.specs.Legal.{IsTaken, IsLegal}
 use Rattle.jm_book.specs.LegalLaws.{taken_apart, taken_keeps, legal_keeps}
 use Rattle.jm_book.specs.TakenLaws.{Reports, Joins, ack_taken, join_taken, taken_fits}
-use Rattle.jm_book.specs.OrderLaws.{AllByRecursion-append}
+use Rattle.jm_cmds.specs.HistoryLaws.{AllByRecursion-append}
 use Rattle.jm_book.specs.MarkLaws.{checkpoint_at_most, checkpoint_at_least, checkpoint_sent}
 use Rattle.jm_book.specs.JoinedLaws.{ssrcs_of, slots_of, ssrcs_moved, slots_moved, marks_moved, found_all, ssrc_absent, slot_absent, free_slot_free}
 use Rattle.jm_book.specs.StepLaws.{session_push}
@@ -96,7 +96,7 @@ participate_after config steps (Join ssrc) h taken = joins (session_of steps) ss
 pub participate_push : (config : Config) (steps : List Step) (step : Step) → Participate (session_of steps) → IsTaken config steps step → Rises (session_of steps) (session_of (steps ++ step ∷ []))
 participate_push config steps step h taken = rw (session_push steps step) (participate_after config steps step h taken)
 
-none_participate : Participate nothing
+pub none_participate : Participate nothing
 unfolding IsDistinct
 none_participate = record { marks = tt; ssrcs = tt; slots = tt; in_range = tt; few = omega arith }
 

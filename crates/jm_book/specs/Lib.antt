@@ -1,7 +1,8 @@
 pub mod Answers
 pub mod Book
 pub mod JoinedLaws
-pub mod Journal
+pub mod LimitLaws
+pub mod Limited
 pub mod Kept
 pub mod Laws
 pub mod Legal

@@ -2,21 +2,10 @@
 use Rattle.std.proofs.Common.{ℕ, ◌+◌, ◌≤◌, List, [], ◌∷◌, ◌++◌, length, arith}
 use Rattle.std.specs.List.{AllByRecursion}
 use Rattle.jm_cmds.specs.History.{InOrder}
-use Rattle.jm_cmds.specs.HistoryLaws.{AllByRecursion-weaker}
+use Rattle.jm_cmds.specs.HistoryLaws.{AllByRecursion-weaker, AllByRecursion-append, InOrder-append}
 use Rattle.jm_cmds.specs.Sent.{packet_of}
 use Rattle.jm_book.specs.declared.steps.Step.{Step}
 use Rattle.jm_book.specs.Session.{Session, Entry, Packet, session_of, as_sent, sent_from, sent_of, pending_of}
-
-pub AllByRecursion-append : {X : Type 0} (P : X → Type 0) (xs ys : List X) → AllByRecursion P xs → AllByRecursion P ys → AllByRecursion P (xs ++ ys)
-AllByRecursion-append P [] ys a b = b
-AllByRecursion-append P (x ∷ xs) ys a b = (a.0, AllByRecursion-append P xs ys a.1 b)
-
--- two lists in order, where a number divides them
-pub InOrder-append : {X : Type 0} (at : X → ℕ) (between : ℕ) (xs ys : List X) → InOrder at xs → AllByRecursion (λ x. at x ≤ between) xs → AllByRecursion (λ y. between ≤ at y) ys → InOrder at ys → InOrder at (xs ++ ys)
-InOrder-append at between [] ys front below above back = back
-InOrder-append at between (x ∷ xs) ys front below above back =
-    let after_x = AllByRecursion-weaker (λ y. between ≤ at y) (λ y. at x ≤ at y) (λ y l. omega (arith, below.0)) ys above in
-    (AllByRecursion-append (λ y. at x ≤ at y) xs ys front.0 after_x, InOrder-append at between xs ys front.1 below.1 above back)
 
 -- the commands of one packet have its number
 pub as_sent_all : (P : ℕ → Type 0) (number : ℕ) (entries : List Entry) → P number → AllByRecursion (λ one. P (packet_of one)) (as_sent number entries)

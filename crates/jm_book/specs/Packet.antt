@@ -1,12 +1,12 @@
 -- The octets of the packet that a cut makes.
 use Rattle.std.proofs.Common.{refl}
-use Rattle.std.specs.Prelude.{◌≡◌, ℕ, ◌<◌, ◌≤◌, ◌%◌, ◌^◌, Bool, true, false, List, [], ◌++◌, length, nat_lt, if◌then◌else◌}
+use Rattle.std.specs.Prelude.{◌≡◌, ℕ, ◌%◌, ◌^◌, Bool, true, false, List, [], ◌++◌, length, nat_lt, if◌then◌else◌}
 use Rattle.jm_packet.specs.declared.header.Header.{Header}
 use Rattle.jm_packet.specs.Header.{header}
 use Rattle.jm_section.specs.Section.{list_text, section_of}
 use Rattle.jm_book.specs.declared.steps.Config.{Config}
 use Rattle.jm_book.specs.Session.{Session, packet_tick, pending_of, sent_of, tick_after, checkpoint_of}
-use Rattle.jm_book.specs.Journal.{journal, channel_journal}
+use Rattle.jm_journal.specs.Journal.{journal, HasShortParts}
 use Rattle.jm_book.specs.Pending.{timed_of}
 
 -- the header: the marker says that there is a MIDI list
@@ -40,8 +40,8 @@ pub journal_of_none : (session : Session) (tick : ℕ) → has_journal session �
 unfolding journal_of
 journal_of_none session tick none = rw none refl
 
--- each channel journal of the next packet, if it has a journal, has at most 273 octets
-abbrev pub HasShortChannels : Session → ℕ → Type 0
-HasShortChannels session tick =
-    has_journal session ≡ true → (channel : ℕ) → channel < 16
-    → length (channel_journal (checkpoint_of session) (length session.packets) (packet_tick session.pending (tick_after session tick)) (sent_of session) channel) ≤ 273
+-- the journal of the next packet, if it has one, has short parts: at most 1,019 octets of the system journal and 996
+-- of each channel's
+abbrev pub HasShortJournal : Session → ℕ → Type 0
+HasShortJournal session tick =
+    has_journal session ≡ true → HasShortParts (checkpoint_of session) (length session.packets) (packet_tick session.pending (tick_after session tick)) (sent_of session)

@@ -2,8 +2,7 @@
 use Rattle.std.specs.Prelude.{ℕ, ◌-◌, ◌^◌, Bool, nat_lt, List, [], ◌∷◌}
 use Rattle.std.specs.List.{list_all}
 use Rattle.jm_cmds.specs.declared.history.Sent.{Sent}
-use Rattle.jm_section.specs.declared.next.Place.{Place}
-use Rattle.jm_section.specs.Section.{Timed, place_after}
+use Rattle.jm_section.specs.Section.{Timed}
 
 abbrev pub timed_after : ℕ → List Sent → List Timed
 timed_after before [] = []
@@ -23,11 +22,6 @@ first_tick other (first ∷ others) = first.tick
 abbrev pub last_tick : ℕ → List Sent → ℕ
 last_tick other [] = other
 last_tick other (one ∷ others) = last_tick one.tick others
-
--- the place behind commands
-abbrev pub place_through : Place → List Timed → Place
-place_through place [] = place
-place_through place (one ∷ others) = place_through (place_after place one.command) others
 
 -- each delta has a field of four octets at most
 abbrev pub have_fields : List Timed → Bool

@@ -3,6 +3,8 @@ use Rattle.std.proofs.Common.{ℕ, ◌+◌, ◌<◌, ◌≡◌, refl, Bool, true
 use Rattle.std.specs.Prelude.{not, nat_le, ◌==◌, ◌||◌, is_some, if◌then◌else◌}
 use Rattle.std.proofs.lemmas.Bool.Decides.{nat_tests}
 use Rattle.jm_cmds.specs.declared.commands.Command.{Command}
+use Rattle.jm_journal.specs.declared.fits.Fit.{Fit}
+use Rattle.jm_journal.specs.declared.fits.Fit.TheVariants as fit
 use Rattle.jm_book.specs.declared.steps.Config.{Config}
 use Rattle.jm_book.specs.declared.steps.Step.{Step}
 use Rattle.jm_book.specs.declared.steps.Step.TheVariants.{Enter, Play, Cut, Ack, Join}
@@ -14,7 +16,7 @@ use Rattle.jm_book.specs.declared.answers.Cutted.TheVariants as cutted
 use Rattle.jm_book.specs.declared.answers.Acked.TheVariants as acked
 use Rattle.jm_book.specs.declared.answers.Joined.TheVariants as joined
 use Rattle.jm_book.specs.Session.{Session, session_of, find_joined, distance, free_slot, last_sent, slowest}
-use Rattle.jm_book.specs.Answers.{is_full, is_known, needs_cut, play_refusal, played_as, behind_or_sent, last_packet, ack_of, most_joined, is_entered, is_accepted, is_packet, is_moved, is_joined}
+use Rattle.jm_book.specs.Answers.{is_full, is_known, needs_cut, fit_after, fit_refusal, or_else, cut_refusal, play_refusal, played_as, behind_or_sent, last_packet, ack_of, most_joined, is_entered, is_accepted, is_packet, is_moved, is_joined}
 use Rattle.jm_book.specs.Legal.{IsTaken}
 
 -- ---- the refusals did not come
@@ -23,10 +25,43 @@ enter_came : (full many : Bool) (events most player : ℕ) → is_entered (if fu
 enter_came true many events most player h = absurd cc
 enter_came false many events most player h = refl
 
-play_came : (known full cut : Bool) (unknown record_full cut_first : PlayFault) → (if not known then Some unknown else if full then Some record_full else if cut then Some cut_first else None) ≡ None → full ≡ false
-play_came false full cut unknown record_full cut_first h = absurd cc
-play_came true true cut unknown record_full cut_first h = absurd cc
-play_came true false cut unknown record_full cut_first h = refl
+pub play_came : (known full : Bool) (unknown record_full : PlayFault) (others : Option PlayFault) → (if not known then Some unknown else if full then Some record_full else others) ≡ None → (full ≡ false) × (others ≡ None)
+play_came false full unknown record_full others h = absurd cc
+play_came true true unknown record_full others h = absurd cc
+play_came true false unknown record_full others h = (refl, h)
+
+neither_came : (one other : Option PlayFault) → or_else one other ≡ None → (one ≡ None) × (other ≡ None)
+neither_came None other h = (refl, h)
+neither_came (Some why) other h = absurd cc
+
+fit_came : (answer : Fit) → fit_refusal answer ≡ None → answer ≡ fit.Yes
+fit_came fit.Yes h = refl
+fit_came (fit.ParamsFull channel kept) h = absurd cc
+fit_came (fit.PolyFull channel kept) h = absurd cc
+fit_came (fit.SysexFull logs octets) h = absurd cc
+
+cut_needless : (needed : Bool) (why : PlayFault) → (if needed then Some why else None) ≡ None → needed ≡ false
+cut_needless true why h = absurd cc
+cut_needless false why h = refl
+
+-- the tape isn't full, the command fits, and no cut is needed
+pub record Unrefused (config : Config) (steps : List Step) (command : Command) (tick : ℕ) : Type 0 where
+  pub room : is_full config steps ≡ false
+  pub fits : fit_after (session_of steps) command ≡ fit.Yes
+  pub cut : needs_cut (session_of steps) command tick ≡ false
+
+pub unrefused : (config : Config) (steps : List Step) (player tick : ℕ) (command : Command) → play_refusal config steps player command tick ≡ None → Unrefused config steps command tick
+unrefused config steps player tick command none =
+    let s = session_of steps in
+    let fits = fit_refusal (fit_after s command) in
+    let cuts = cut_refusal s command tick in
+    let came = play_came (is_known s player) (is_full config steps) _ _ (or_else fits cuts) none in
+    let both = neither_came fits cuts came.1 in
+    record {
+      room = came.0;
+      fits = fit_came (fit_after s command) both.0;
+      cut = cut_needless (needs_cut s command tick) _ both.1;
+    }
 
 accepted_unrefused : (steps : List Step) (command : Command) (refusal : Option PlayFault) → is_accepted (played_as steps command refusal) ≡ true → refusal ≡ None
 accepted_unrefused steps command None h = refl
@@ -94,12 +129,17 @@ join_taken config steps ssrc h =
     let came = join_came (is_some (find_joined ssrc s.joined)) (is_full config steps) (nat_le most_joined (length s.joined)) config.events most_joined (last_sent s) (64 + free_slot s.joined) h in
     (came.1, record { absent = came.0; few = grind (arith, nat_tests, came.2) })
 
+-- a play is taken only where its command fits
+pub play_fits : (config : Config) (steps : List Step) (player tick : ℕ) (command : Command) → IsTaken config steps (Play player command tick) → fit_after (session_of steps) command ≡ fit.Yes
+play_fits config steps player tick command h =
+    (unrefused config steps player tick command (accepted_unrefused steps command (play_refusal config steps player command tick) h)).fits
+
 -- a step is taken only where the tape isn't full
 pub taken_room : (config : Config) (steps : List Step) (step : Step) → IsTaken config steps step → is_full config steps ≡ false
 taken_room config steps Enter h =
     enter_came (is_full config steps) (nat_le 64 (session_of steps).entered) config.events 64 (session_of steps).entered h
 taken_room config steps (Play player command tick) h =
-    play_came (is_known (session_of steps) player) (is_full config steps) (needs_cut (session_of steps) command tick) _ _ _ (accepted_unrefused steps command (play_refusal config steps player command tick) h)
+    (unrefused config steps player tick command (accepted_unrefused steps command (play_refusal config steps player command tick) h)).room
 taken_room config steps (Cut tick) h =
     cut_came (is_full config steps) config.events (behind_or_sent (session_of steps) (slowest (session_of steps).joined)) h
 taken_room config steps (Ack ssrc seq) h = (ack_taken config steps ssrc seq h).0

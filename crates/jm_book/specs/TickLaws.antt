@@ -10,7 +10,7 @@ use Rattle.jm_book.specs.declared.steps.Step.{Step}
 use Rattle.jm_book.specs.declared.steps.Step.TheVariants.{Enter, Play, Cut, Ack, Join}
 use Rattle.jm_book.specs.declared.participants.Participant.{Participant}
 use Rattle.jm_book.specs.Session.{Session, session_of, after, nothing, acknowledged, find_joined, tick_after, sent_of, pending_of}
-use Rattle.jm_book.specs.OrderLaws.{InOrder-append, AllByRecursion-append}
+use Rattle.jm_cmds.specs.HistoryLaws.{InOrder-append, AllByRecursion-append}
 use Rattle.jm_book.specs.StepLaws.{pending_push, sent_cut}
 
 -- ticks never fall along these commands, and none is past this one

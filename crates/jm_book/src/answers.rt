@@ -1,6 +1,6 @@
 //! What the calls of a session answer.
 
-use jm_cmds::Command;
+use jm_cmds::{Channel, Command};
 
 /// What [`crate::Book::enter`] answers.
 #[derive(Clone, Copy, Debug, PartialEq, Eq)]
@@ -31,6 +31,24 @@ pub enum PlayFault {
     /// The tape has as many steps as the session was made for.
     RecordFull {
         events: u32,
+    },
+    /// The command is Control 6 or 38 of this channel and sets a selected parameter, and the journal codes
+    /// `kept` other parameters of the channel, as many as it may.
+    ParamsFull {
+        channel: Channel,
+        kept: usize,
+    },
+    /// The command is a pressure of a note of this channel, and the journal codes `kept` other notes'
+    /// pressures in the channel, as many as it may.
+    PolyFull {
+        channel: Channel,
+        kept: usize,
+    },
+    /// The command is a SysEx to be kept, and the journal's SysEx have so many logs and octets that one
+    /// more of its size is too many.
+    SysexFull {
+        logs: usize,
+        octets: usize,
     },
     /// 256 commands are pending; or with this command the MIDI list would have `octets` octets,
     /// more than 4,095; or `delta`, its distance from the command before it, is over 0x0FFFFFFF.

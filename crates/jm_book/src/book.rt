@@ -4,6 +4,7 @@ ghost use Rattle.std.specs.Prelude.{◌≡◌, ◌+◌, ◌≤◌, [], ◌∷◌
 ghost use Rattle.jm_book.specs.Book.{Told, IsReady, Takes};
 ghost use Rattle.jm_book.specs.Session.{session_of, pending_of, checkpoint_of};
 ghost use Rattle.jm_book.specs.Answers.{enter_answer, is_entered, is_full};
+ghost use Rattle.jm_book.specs.Legal.{IsLegal};
 
 use crate::answers::Entered;
 use crate::participants::Participants;
@@ -123,9 +124,10 @@ impl Book {
         self.tape.commands().len() - self.progress.first_pending
     }
 
-    /// How many steps were taken.
+    /// How many steps were taken. Each was taken by what the calls answer after the steps before it.
     pub fn steps(&self) -> usize
-        ensures { result ≡ length self.now.steps }
+        ensures number { result ≡ length self.now.steps }
+        ensures legal { IsLegal self.now.config self.now.steps }
     {
         self.tape.len()
     }

@@ -1,7 +1,7 @@
 //! What holds of every session, over the definitions that this crate's contracts cite. Each law is the
 //! contract of a function that does nothing.
 
-ghost use Rattle.jm_book.specs.Laws.{PacketsInOrder, TicksInOrder, KeepsPlays, NumbersPlays, KeepsPlayersInOrder, CountsPlays, SendsEntries, TakesLegally, TookLegally, PassesNoMark, NeverFalls, MarksSent, JoinsOnce, SharesNoSlot, FitsTape, CallsKeepLegal, ReportsAdvance, JoinsAtLast};
+ghost use Rattle.jm_book.specs.Laws.{PacketsInOrder, TicksInOrder, KeepsPlays, NumbersPlays, KeepsPlayersInOrder, CountsPlays, SendsEntries, TakesLegally, TookLegally, PassesNoMark, NeverFalls, MarksSent, JoinsOnce, SharesNoSlot, FitsTape, CallsKeepLegal, ReportsAdvance, JoinsAtLast, KeepsTheLimits};
 
 /// Packet numbers never fall along the sent commands, nor along those and the pending ones.
 pub fn packets_in_order()
@@ -94,4 +94,10 @@ pub fn reports_advance()
 /// A joiner's mark is the last sent packet, or 0 where none was sent.
 pub fn joins_at_last()
     ensures { JoinsAtLast }
+{}
+
+/// After legal steps what is coded keeps the journal's limits: 16 parameters and 64 notes' pressures in a
+/// channel, 128 SysEx in 1,000 octets; also were all pending commands sent.
+pub fn keeps_limits()
+    ensures { KeepsTheLimits }
 {}

@@ -4,7 +4,6 @@
 mod answers;
 mod book;
 mod cut;
-mod journal;
 pub mod laws;
 mod marks;
 mod participants;

@@ -4,12 +4,13 @@ ghost use Rattle.std.specs.Prelude.{◌≡◌, ◌+◌, ◌≤◌, ◌∷◌, �
 ghost use Rattle.jm_cmds.specs.declared.commands.Command.{Command};
 ghost use Rattle.jm_book.specs.Book.{IsReady, Takes};
 ghost use Rattle.jm_book.specs.Session.{session_of, tick_after};
-ghost use Rattle.jm_book.specs.Answers.{is_known, is_kept, delta_with, list_with, needs_cut, play_refusal, play_answer, is_accepted};
+ghost use Rattle.jm_book.specs.Answers.{is_known, is_kept, delta_with, list_with, fit_after, fit_refusal, cut_refusal, play_refusal, play_answer, is_accepted};
 
 use crate::answers::{PlayFault, Played};
 use crate::book::{Book, MOST_PLAYERS};
 use crate::steps::Step;
 use jm_cmds::{Command, Sent};
+use jm_journal::{Fit, plain_fits};
 use jm_section::next_len;
 
 /// How many commands may be pending.
@@ -71,6 +72,42 @@ impl Book {
         self.progress.list_len + next_len(self.progress.place, self.delta_with(tick), command)
     }
 
+    /// Why a command doesn't fit behind the sent and pending ones, if it doesn't.
+    fn fit_refusal(&self, command: &Command) -> Option<PlayFault>
+        ensures { result ≡ fit_refusal (fit_after (session_of self.now.steps) command.now) }
+    {
+        match self.fit_after(command) {
+            Fit::Yes => None,
+            Fit::ParamsFull { channel, kept } => Some(PlayFault::ParamsFull { channel, kept }),
+            Fit::PolyFull { channel, kept } => Some(PlayFault::PolyFull { channel, kept }),
+            Fit::SysexFull { logs, octets } => Some(PlayFault::SysexFull { logs, octets }),
+        }
+    }
+
+    /// Whether a command fits behind the sent and pending ones, were they all sent.
+    fn fit_after(&self, command: &Command) -> Fit
+        ensures { result ≡ fit_after (session_of self.now.steps) command.now }
+    {
+        plain_fits(self.all_commands(), self.checkpoint(), command)
+    }
+
+    /// Why a cut has to come before a play, if it has to.
+    fn cut_refusal(&self, command: &Command, tick: u64) -> Option<PlayFault>
+        ensures { result ≡ cut_refusal (session_of self.now.steps) command.now tick }
+    {
+        let pending = self.pending();
+        let octets = self.list_with(command, tick);
+        let delta = self.delta_with(tick);
+        if pending >= MOST_PENDING || octets > LONGEST_LIST || delta > WIDEST_DELTA {
+            return Some(PlayFault::NeedsCut {
+                pending,
+                octets,
+                delta,
+            });
+        }
+        None
+    }
+
     /// Why a play is refused, if it is.
     fn refusal(&self, player: u8, command: &Command, tick: u64) -> Option<PlayFault>
         ensures { result ≡ play_refusal self.now.config self.now.steps player command.now tick }
@@ -83,17 +120,11 @@ impl Book {
                 events: self.config.events,
             });
         }
-        let pending = self.pending();
-        let octets = self.list_with(command, tick);
-        let delta = self.delta_with(tick);
-        if pending >= MOST_PENDING || octets > LONGEST_LIST || delta > WIDEST_DELTA {
-            return Some(PlayFault::NeedsCut {
-                pending,
-                octets,
-                delta,
-            });
+        match self.fit_refusal(command) {
+            Some(why) => return Some(why),
+            None => {}
         }
-        None
+        self.cut_refusal(command, tick)
     }
 
     /// A player's command, at this tick in units of 100 microseconds, becomes pending. It gets the

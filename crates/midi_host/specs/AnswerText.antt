@@ -30,6 +30,9 @@ accepted_text serial kept = codes "accepted " ++ decimal serial ++ (if kept then
 unfoldable pub refused_text : PlayFault → List ℕ
 refused_text refusal.UnknownPlayer = codes "refused unknown-player\n"
 refused_text (refusal.RecordFull events) = record_full_text events
+refused_text (refusal.ParamsFull channel kept) = codes "refused params-full " ++ decimal channel ++ codes " " ++ decimal kept ++ codes "\n"
+refused_text (refusal.PolyFull channel kept) = codes "refused poly-full " ++ decimal channel ++ codes " " ++ decimal kept ++ codes "\n"
+refused_text (refusal.SysexFull logs octets) = codes "refused sysex-full " ++ decimal logs ++ codes " " ++ decimal octets ++ codes "\n"
 refused_text (refusal.NeedsCut pending octets delta) = codes "refused needs-cut " ++ decimal pending ++ codes " " ++ decimal octets ++ codes " " ++ decimal delta ++ codes "\n"
 
 abbrev pub played_text : Played → List ℕ

@@ -1,12 +1,13 @@
 //! The answers of a session, as they are printed.
 
-ghost use Rattle.std.specs.Prelude.{◌≡◌, ◌++◌, OnOk, decimal};
+ghost use Rattle.std.specs.Prelude.{◌≡◌, ◌++◌, OnOk, codes, decimal};
 ghost use Rattle.hex.specs.Hex.{encode_lower};
 ghost use Rattle.jm_wire.specs.Numbers.{be32};
 ghost use Rattle.midi_host.specs.AnswerText.{record_full_text, entered_text, accepted_text, refused_text, last_text, acked_text, joined_text, cutted_text};
 
 use itoa::Buffer;
 use jm_book::{Acked, Cutted, Entered, Joined, PlayFault};
+use jm_cmds::Channel;
 use std::alloc::{AllocError, Global};
 
 /// Adds a number in decimal digits.
@@ -84,6 +85,54 @@ pub fn add_accepted(out: &mut Vec<u8>, serial: u64, kept: bool) -> Result<(), Al
     Ok(())
 }
 
+/// Adds a text, two numbers with a space between them, and the end of the line.
+fn add_pair(
+    out: &mut Vec<u8>,
+    before: &[u8],
+    first: u64,
+    second: u64,
+) -> Result<(), AllocError>
+    ensures { OnOk result (out.new.items ≡ out.old.items ++ (before.now ++ decimal first ++ codes " " ++ decimal second ++ codes "\n")) }
+{
+    add_numbered(out, before, first, b" ")?;
+    add_numbered(out, b"", second, b"\n")?;
+    Ok(())
+}
+
+#[tactic(auto, unfolding(crate::specs::AnswerText::refused_text))]
+fn add_params_full(out: &mut Vec<u8>, channel: Channel, kept: usize) -> Result<(), AllocError>
+    ensures { OnOk result (out.new.items ≡ out.old.items ++ refused_text (PlayFault.ParamsFull channel kept)) }
+{
+    add_pair(
+        out,
+        b"refused params-full ",
+        u64::from(channel.get()),
+        kept as u64,
+    )?;
+    Ok(())
+}
+
+#[tactic(auto, unfolding(crate::specs::AnswerText::refused_text))]
+fn add_poly_full(out: &mut Vec<u8>, channel: Channel, kept: usize) -> Result<(), AllocError>
+    ensures { OnOk result (out.new.items ≡ out.old.items ++ refused_text (PlayFault.PolyFull channel kept)) }
+{
+    add_pair(
+        out,
+        b"refused poly-full ",
+        u64::from(channel.get()),
+        kept as u64,
+    )?;
+    Ok(())
+}
+
+#[tactic(auto, unfolding(crate::specs::AnswerText::refused_text))]
+fn add_sysex_full(out: &mut Vec<u8>, logs: usize, octets: usize) -> Result<(), AllocError>
+    ensures { OnOk result (out.new.items ≡ out.old.items ++ refused_text (PlayFault.SysexFull logs octets)) }
+{
+    add_pair(out, b"refused sysex-full ", logs as u64, octets as u64)?;
+    Ok(())
+}
+
 #[tactic(auto, unfolding(crate::specs::AnswerText::refused_text))]
 fn add_needs_cut(
     out: &mut Vec<u8>,
@@ -111,6 +160,18 @@ pub fn add_refused(out: &mut Vec<u8>, why: PlayFault) -> Result<(), AllocError>
         }
         PlayFault::RecordFull { events } => {
             add_record_full(out, events)?;
+            Ok(())
+        }
+        PlayFault::ParamsFull { channel, kept } => {
+            add_params_full(out, channel, kept)?;
+            Ok(())
+        }
+        PlayFault::PolyFull { channel, kept } => {
+            add_poly_full(out, channel, kept)?;
+            Ok(())
+        }
+        PlayFault::SysexFull { logs, octets } => {
+            add_sysex_full(out, logs, octets)?;
             Ok(())
         }
         PlayFault::NeedsCut {
