@@ -3,11 +3,10 @@
 ghost use Rattle.std.specs.Prelude.{◌≡◌, ◌++◌, OnOk, codes, decimal};
 ghost use Rattle.hex.specs.Hex.{encode_lower};
 ghost use Rattle.jm_wire.specs.Numbers.{be32};
-ghost use Rattle.midi_host.specs.AnswerText.{record_full_text, entered_text, accepted_text, refused_text, last_text, acked_text, joined_text, cutted_text};
+ghost use Rattle.midi_host.specs.AnswerText.{record_full_text, entered_text, accepted_text, refused_text, played_text, last_text, acked_text, joined_text, cutted_text};
 
 use itoa::Buffer;
-use jm_book::{Acked, Cutted, Entered, Joined, PlayFault};
-use jm_cmds::Channel;
+use jm_book::{Acked, Cutted, Entered, Joined, PlayFault, Played};
 use std::alloc::{AllocError, Global};
 
 /// Adds a number in decimal digits.
@@ -74,7 +73,7 @@ pub fn add_entered(out: &mut Vec<u8>, answer: Entered) -> Result<(), AllocError>
 
 /// Adds what an accepted play is answered.
 #[tactic(auto, unfolding(crate::specs::AnswerText::accepted_text))]
-pub fn add_accepted(out: &mut Vec<u8>, serial: u64, kept: bool) -> Result<(), AllocError>
+fn add_accepted(out: &mut Vec<u8>, serial: u64, kept: bool) -> Result<(), AllocError>
     ensures { OnOk result (out.new.items ≡ out.old.items ++ accepted_text serial kept) }
 {
     if kept {
@@ -86,50 +85,11 @@ pub fn add_accepted(out: &mut Vec<u8>, serial: u64, kept: bool) -> Result<(), Al
 }
 
 /// Adds a text, two numbers with a space between them, and the end of the line.
-fn add_pair(
-    out: &mut Vec<u8>,
-    before: &[u8],
-    first: u64,
-    second: u64,
-) -> Result<(), AllocError>
+fn add_pair(out: &mut Vec<u8>, before: &[u8], first: u64, second: u64) -> Result<(), AllocError>
     ensures { OnOk result (out.new.items ≡ out.old.items ++ (before.now ++ decimal first ++ codes " " ++ decimal second ++ codes "\n")) }
 {
     add_numbered(out, before, first, b" ")?;
     add_numbered(out, b"", second, b"\n")?;
-    Ok(())
-}
-
-#[tactic(auto, unfolding(crate::specs::AnswerText::refused_text))]
-fn add_params_full(out: &mut Vec<u8>, channel: Channel, kept: usize) -> Result<(), AllocError>
-    ensures { OnOk result (out.new.items ≡ out.old.items ++ refused_text (PlayFault.ParamsFull channel kept)) }
-{
-    add_pair(
-        out,
-        b"refused params-full ",
-        u64::from(channel.get()),
-        kept as u64,
-    )?;
-    Ok(())
-}
-
-#[tactic(auto, unfolding(crate::specs::AnswerText::refused_text))]
-fn add_poly_full(out: &mut Vec<u8>, channel: Channel, kept: usize) -> Result<(), AllocError>
-    ensures { OnOk result (out.new.items ≡ out.old.items ++ refused_text (PlayFault.PolyFull channel kept)) }
-{
-    add_pair(
-        out,
-        b"refused poly-full ",
-        u64::from(channel.get()),
-        kept as u64,
-    )?;
-    Ok(())
-}
-
-#[tactic(auto, unfolding(crate::specs::AnswerText::refused_text))]
-fn add_sysex_full(out: &mut Vec<u8>, logs: usize, octets: usize) -> Result<(), AllocError>
-    ensures { OnOk result (out.new.items ≡ out.old.items ++ refused_text (PlayFault.SysexFull logs octets)) }
-{
-    add_pair(out, b"refused sysex-full ", logs as u64, octets as u64)?;
     Ok(())
 }
 
@@ -150,7 +110,7 @@ fn add_needs_cut(
 
 /// Adds what a refused play is answered.
 #[tactic(auto, unfolding(crate::specs::AnswerText::refused_text))]
-pub fn add_refused(out: &mut Vec<u8>, why: PlayFault) -> Result<(), AllocError>
+fn add_refused(out: &mut Vec<u8>, why: PlayFault) -> Result<(), AllocError>
     ensures { OnOk result (out.new.items ≡ out.old.items ++ refused_text why) }
 {
     match why {
@@ -163,15 +123,17 @@ pub fn add_refused(out: &mut Vec<u8>, why: PlayFault) -> Result<(), AllocError>
             Ok(())
         }
         PlayFault::ParamsFull { channel, kept } => {
-            add_params_full(out, channel, kept)?;
+            let number = u64::from(channel.get());
+            add_pair(out, b"refused params-full ", number, kept as u64)?;
             Ok(())
         }
         PlayFault::PolyFull { channel, kept } => {
-            add_poly_full(out, channel, kept)?;
+            let number = u64::from(channel.get());
+            add_pair(out, b"refused poly-full ", number, kept as u64)?;
             Ok(())
         }
         PlayFault::SysexFull { logs, octets } => {
-            add_sysex_full(out, logs, octets)?;
+            add_pair(out, b"refused sysex-full ", logs as u64, octets as u64)?;
             Ok(())
         }
         PlayFault::NeedsCut {
@@ -180,6 +142,22 @@ pub fn add_refused(out: &mut Vec<u8>, why: PlayFault) -> Result<(), AllocError>
             delta,
         } => {
             add_needs_cut(out, pending, octets, delta)?;
+            Ok(())
+        }
+    }
+}
+
+/// Adds what a play is answered.
+pub fn add_played(out: &mut Vec<u8>, answer: &Played) -> Result<(), AllocError>
+    ensures { OnOk result (out.new.items ≡ out.old.items ++ played_text answer.now) }
+{
+    match answer {
+        Played::Accepted { serial, kept } => {
+            add_accepted(out, *serial, *kept)?;
+            Ok(())
+        }
+        Played::Refused { why, .. } => {
+            add_refused(out, *why)?;
             Ok(())
         }
     }

@@ -7,11 +7,11 @@ ghost use Rattle.midi_host.specs.ReplayState.{answered, lined, state_of, state_o
 ghost use Rattle.midi_host.specs.Heard.{Hears};
 ghost use Rattle.midi_host.specs.Line.{IsInRange};
 
-use super::print::{add_accepted, add_acked, add_cutted, add_entered, add_joined, add_refused};
+use super::print::{add_acked, add_cutted, add_entered, add_joined, add_played};
 use super::room::PacketRoom;
 use super::script::{Line, LineFault, read_line};
 use super::verb::{Cause, Heard, Verb};
-use jm_book::{Book, Config, Played};
+use jm_book::{Book, Config};
 use jm_cmds::{Command, ReadError};
 use std::alloc::{AllocError, Global};
 
@@ -69,16 +69,9 @@ fn play(
     ensures { Did result (answered (state_of_started session.old) (Line.Play player tick command)) (state_of_started session.new) out.old.items out.new.items }
 {
     session.book.reserve()?;
-    match session.book.play(player, command, tick) {
-        Played::Accepted { serial, kept } => {
-            add_accepted(out, serial, kept)?;
-            Ok(Heard::Taken)
-        }
-        Played::Refused { why, command: _ } => {
-            add_refused(out, why)?;
-            Ok(Heard::Taken)
-        }
-    }
+    let answer = session.book.play(player, command, tick);
+    add_played(out, &answer)?;
+    Ok(Heard::Taken)
 }
 
 /// `cut TICK`.
