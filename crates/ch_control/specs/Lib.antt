@@ -4,3 +4,5 @@ pub mod ChapterLaws
 pub mod CountBounds
 pub mod Fresh
 pub mod FreshLaws
+pub mod Activity
+pub mod ActivityLaws

@@ -1,8 +1,7 @@
 -- Chapter E, a place at a time, and how many logs it may have.
-use Rattle.std.proofs.Common.{◌≡◌, ℕ, ◌+◌, ◌≤◌, ◌<◌, Bool, true, false, cond, eqb, leb, ltb, Option, Some, None, List, [], ◌∷◌, length, refl, sym, ap, ◌∙◌, arith, inl, inr}
-use Rattle.std.specs.List.{list_any, filter_map, cons_option, AllByRecursion}
+use Rattle.std.proofs.Common.{◌≡◌, ℕ, ◌+◌, ◌≤◌, Bool, true, false, cond, eqb, leb, ltb, Option, Some, None, List, [], ◌∷◌, length, refl, sym, ap, ◌∙◌, arith}
+use Rattle.std.specs.List.{cons_option, AllByRecursion}
 use Rattle.std.specs.Option.{is_some}
-use Rattle.std.proofs.lemmas.Bool.{cases_Bool}
 use Rattle.std.proofs.lemmas.List.Sums.{sum_by-cons}
 use Rattle.jm_cmds.specs.declared.history.Sent.{Sent}
 use Rattle.jm_cmds.specs.Command.{IsCommand}
@@ -11,13 +10,13 @@ use Rattle.jm_cmds.specs.HistoryLaws.{Unended-standing, Unended-coded, AllByRecu
 use Rattle.jm_cmds.specs.Sent.{packet_of}
 use Rattle.ch_notes.specs.declared.events.NoteEvent.{NoteEvent}
 use Rattle.ch_notes.specs.declared.events.NoteEvent.TheVariants.{Struck, Released, Cleared, Other}
-use Rattle.ch_notes.specs.NoteEvent.{note_event, event_at, note_ends, IsWithin, AreWithin}
+use Rattle.ch_notes.specs.NoteEvent.{event_at, note_ends, IsWithin, AreWithin}
 use Rattle.ch_notes.specs.CountBounds.{note_of, notes_of, notes-few}
 use Rattle.ch_notes.specs.FreshLaws.{IsWithin-event}
 use Rattle.ch_notes.specs.ChapterN.{coded_notes}
 use Rattle.ch_notes.specs.Listed.{listed, count_logs, has_fresh, header_shows_fresh, log_shows_fresh}
 use Rattle.ch_notes.specs.ListedLaws.{FitsLog, listed-shows}
-use Rattle.ch_notes.specs.ChapterE.{struck_log, released_log, ref_count, extra_log, extra_at, chapter_e, fresh_e}
+use Rattle.ch_notes.specs.ChapterE.{ref_count, extra_log, extra_at, chapter_e, fresh_e}
 
 pub extra-standing : (channel : ℕ) (session : List Sent) (b : Bool) (event : NoteEvent) → extra_log channel session (cond b Other event) ≡ cond b None (extra_log channel session event)
 extra-standing channel session true event = refl

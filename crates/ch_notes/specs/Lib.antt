@@ -17,3 +17,4 @@ pub mod ChapterA
 pub mod PolyLimits
 pub mod ExtraLaws
 pub mod PressLaws
+pub mod Muted

@@ -1,6 +1,6 @@
 -- Chapters that are a list of logs of two octets, behind a header with their number (RFC 6295, A.7,
 -- Figures A.7.1 and A.7.2, and A.9, Figures A.9.1 and A.9.2).
-use Rattle.std.specs.Prelude.{ℕ, ◌+◌, ◌-◌, ◌*◌, Bool, true, false, ◌&&◌, Option, Some, None, List, [], ◌∷◌, count_by, nat_lt, ◌||◌, ◌==◌, if◌then◌else◌}
+use Rattle.std.specs.Prelude.{ℕ, ◌+◌, ◌-◌, ◌*◌, Bool, false, ◌&&◌, Option, Some, None, List, [], ◌∷◌, count_by, nat_lt, ◌||◌, ◌==◌, if◌then◌else◌}
 use Rattle.std.specs.List.{list_any, flat_map}
 use Rattle.std.specs.Option.{is_some}
 use Rattle.jm_cmds.specs.declared.history.Sent.{Sent}

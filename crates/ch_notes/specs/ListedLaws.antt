@@ -56,9 +56,13 @@ pub one_counted : (count count' : ℕ) (b : Bool) (rest later all : ℕ) → cou
 one_counted count count' true rest later all h s k = omega arith
 one_counted count count' false rest later all h s k = omega arith
 
-pub some-standing : {X : Type 0} (b : Bool) (log : Option X) → is_some (cond b None log) ≡ cond b false (is_some log)
+some-standing : {X : Type 0} (b : Bool) (log : Option X) → is_some (cond b None log) ≡ cond b false (is_some log)
 some-standing true log = refl
 some-standing false log = refl
+
+-- that a place's log is there says that the place is counted
+pub counted-log : (b r : Bool) (log here : Option Log) → r ≡ is_some log → log ≡ cond b None here → r ≡ cond b false (is_some here)
+counted-log b r log here e h = e ∙ ap is_some h ∙ some-standing b here
 
 -- ## A log at a time
 

@@ -52,6 +52,10 @@ pressed_note Other = None
 abbrev pub poly_key : ℕ → Sent → Option ℕ
 poly_key channel place = pressed_note (poly_at channel place)
 
+abbrev pub is_poly : Command → Bool
+is_poly (PolyPressure at note value) = true
+is_poly command = false
+
 abbrev pub is_pressed : PolyEvent → Bool
 is_pressed (Pressed note value) = true
 is_pressed Dropped = false

@@ -1,12 +1,15 @@
 -- How a command, and a later checkpoint, change the number of notes that Chapter A codes.
-use Rattle.std.proofs.Common.{◌≡◌, ℕ, ◌+◌, ◌≤◌, true, false, eqb, List, [], ◌∷◌, ◌++◌, Option, Some, None, refl, ap, ◌∙◌}
+use Rattle.std.proofs.Common.{◌≡◌, ℕ, ◌+◌, ◌≤◌, Bool, true, false, cond, eqb, List, [], ◌∷◌, ◌++◌, Some, None, refl}
 use Rattle.std.proofs.lemmas.Bool.{eq-eqb}
+use Rattle.jm_cmds.specs.declared.commands.Command.{Command}
+use Rattle.jm_cmds.specs.declared.commands.Command.TheVariants.{PolyPressure}
 use Rattle.jm_cmds.specs.declared.history.Sent.{Sent}
+use Rattle.jm_cmds.specs.Control.{ends_controllers}
 use Rattle.jm_cmds.specs.Keys.{EndsKey, keys_push, keys_none, keys_met, keys_later}
 use Rattle.jm_cmds.specs.Sent.{packet_of}
 use Rattle.ch_notes.specs.declared.presses.PolyEvent.{PolyEvent}
 use Rattle.ch_notes.specs.declared.presses.PolyEvent.TheVariants.{Pressed, Dropped, Other}
-use Rattle.ch_notes.specs.PolyEvent.{poly_at, poly_event_ends, poly_ends, poly_key, pressed_note}
+use Rattle.ch_notes.specs.PolyEvent.{poly_event, poly_at, poly_event_ends, poly_ends, poly_key, pressed_note, is_poly}
 use Rattle.ch_notes.specs.ChapterA.{poly_count, has_poly}
 
 none_some : (k : ℕ) → None ≡ Some k → ⊥
@@ -22,6 +25,27 @@ meets Other b k p q = absurd (none_some k p)
 -- a pressure on a note ends the one before it
 pub EndsKey-poly : (channel : ℕ) → EndsKey (poly_ends channel) (poly_key channel)
 EndsKey-poly channel = λ x y k p q. meets (poly_at channel x) (poly_at channel y) k p q
+
+-- ## The key of a command
+
+-- a pressure presses its own note on its own channel
+pub poly_key-own : (channel note value : ℕ) → pressed_note (poly_event channel (PolyPressure channel note value)) ≡ Some note
+poly_key-own channel note value = rw (eq-eqb channel channel refl) refl
+
+-- and none on another
+pub poly_key-apart : (channel at note value : ℕ) → eqb at channel ≡ false → pressed_note (poly_event channel (PolyPressure at note value)) ≡ None
+poly_key-apart channel at note value e = rw e refl
+
+dropped-none : (b : Bool) → pressed_note (cond b Dropped Other) ≡ None
+dropped-none true = refl
+dropped-none false = refl
+
+-- other commands press none
+pub poly_key-other : (channel : ℕ) (command : Command) → is_poly command ≡ false → pressed_note (poly_event channel command) ≡ None
+poly_key-other channel (PolyPressure at note value) e = absurd (let f : true ≡ false = e in cc)
+poly_key-other channel command e = dropped-none (ends_controllers channel command)
+
+-- ## One command more
 
 -- One more command makes the coded notes at most one more.
 pub poly_count-push : (channel from : ℕ) (sent : List Sent) (last : Sent) → from ≤ last.packet → poly_count channel from (sent ++ last ∷ []) ≤ poly_count channel from sent + 1

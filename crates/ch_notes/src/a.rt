@@ -1,15 +1,15 @@
 //! Chapter A: the pressures on single keys (RFC 6295, A.9).
 
-ghost use Rattle.std.specs.Prelude.{◌≡◌, ◌+◌, ◌≤◌, ◌||◌, Bool, None, if◌then◌else◌, length};
+ghost use Rattle.std.specs.Prelude.{◌≡◌, ◌≤◌, Bool, None, if◌then◌else◌, length};
 ghost use Rattle.std.specs.List.{list_any};
 ghost use Rattle.jm_wire.specs.Octets.{Appends};
 ghost use Rattle.jm_cmds.specs.History.{InOrder, standing, coded, below};
 ghost use Rattle.jm_cmds.specs.Keys.{key_count, has_key};
 ghost use Rattle.jm_cmds.specs.Sent.{packet_of};
 ghost use Rattle.jm_cmds.specs.declared.history.Sent.{Sent};
-ghost use Rattle.ch_notes.specs.PolyEvent.{IsWithin, poly_ends, poly_key, is_pressed, presses};
+ghost use Rattle.ch_notes.specs.PolyEvent.{poly_ends, poly_key, is_pressed, presses};
 ghost use Rattle.ch_notes.specs.Listed.{texts};
-ghost use Rattle.ch_notes.specs.ChapterA.{is_muted, x_bit, press_log, press_at, some_fresh, chapter_a, fresh_a, poly_count, has_poly};
+ghost use Rattle.ch_notes.specs.ChapterA.{muted_step, is_muted, x_bit, press_log, press_at, some_fresh, chapter_a, fresh_a, poly_count, has_poly};
 
 use crate::listed::{Log, Logs, write_log};
 use crate::presses::{PolyEvent, poly_event, standing_press};
@@ -33,14 +33,24 @@ fn presses(event: &PolyEvent, note: D7) -> bool
     }
 }
 
-/// Whether the latest pressure on the note is no longer N-active (RFC 6295, A.1).
+/// Whether the latest pressure on the note is no longer N-active behind this place, where it says whether it
+/// was so before (RFC 6295, A.1).
+fn muted_behind(muted: bool, place: &Sent, channel: Channel, note: D7) -> bool
+    ensures { result ≡ muted_step channel note muted place.now }
+{
+    if presses(&poly_event(&place.command, channel), note) {
+        return false;
+    }
+    muted || place.command.ends_notes(channel)
+}
+
+/// Whether the latest pressure on the note is no longer N-active behind the whole session.
 fn is_muted(session: &[Sent], channel: Channel, note: D7) -> bool
     ensures { result ≡ is_muted channel note session.now }
 {
     let mut muted = false;
     for place in session {
-        muted = !presses(&poly_event(&place.command, channel), note)
-            && (muted || place.command.ends_notes(channel));
+        muted = muted_behind(muted, place, channel, note);
     }
     muted
 }

@@ -2,6 +2,7 @@
 //! function that does nothing.
 
 ghost use Rattle.ch_notes.specs.Fresh.{FreshShows, ExtraShows, PressShows};
+ghost use Rattle.ch_notes.specs.Muted.{XTellsActivity};
 ghost use Rattle.ch_notes.specs.PolyLimits.{PolyLimits};
 
 /// Chapter N is fresh exactly where its B or one of its S bits is 0.
@@ -19,6 +20,11 @@ pub fn extra_shows()
 /// is.
 pub fn press_shows()
     ensures { PressShows }
+{}
+
+/// X of Chapter A is 1 exactly where a later command ended the notes of the channel.
+pub fn x_tells_activity()
+    ensures { XTellsActivity }
 {}
 
 /// How the number of notes that Chapter A codes changes as commands are sent and the checkpoint grows.

@@ -15,7 +15,7 @@ mod shape;
 
 pub use events::{NoteEvent, note_event};
 pub use listed::Log;
-pub use presses::{PolyEvent, poly_event};
+pub use presses::{PolyEvent, poly_event, pressed_note};
 
 #[cfg(test)]
 mod tests;

@@ -3,7 +3,7 @@
 ghost use Rattle.std.specs.Prelude.{◌≡◌, if◌then◌else◌};
 ghost use Rattle.std.specs.List.{list_any};
 ghost use Rattle.ch_notes.specs.declared.presses.PolyEvent.TheVariants.{Other};
-ghost use Rattle.ch_notes.specs.PolyEvent.{poly_event, IsWithin, poly_event_ends, poly_at, poly_ends};
+ghost use Rattle.ch_notes.specs.PolyEvent.{poly_event, IsWithin, pressed_note, poly_event_ends, poly_at, poly_ends};
 
 use jm_cmds::{Channel, Command, D7, Sent};
 
@@ -41,6 +41,16 @@ pub fn poly_event(command: &Command, channel: Channel) -> PolyEvent
             }
             PolyEvent::Other
         }
+    }
+}
+
+/// The note on whose key this command is a pressure of this channel, or `None` where it is none.
+pub fn pressed_note(command: &Command, channel: Channel) -> Option<D7>
+    ensures { result ≡ pressed_note (poly_event channel command.now) }
+{
+    match poly_event(command, channel) {
+        PolyEvent::Pressed { note, .. } => Some(note),
+        PolyEvent::Dropped | PolyEvent::Other => None,
     }
 }
 

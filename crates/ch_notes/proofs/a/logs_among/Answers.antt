@@ -1,4 +1,4 @@
-use Rattle.std.proofs.Common.{◌≡◌, ◌∷◌, [], ◌+◌, ◌≤◌, Bool, cond, ap, sym, ◌∙◌, arith, length, ◌||◌, ◌&&◌}
+use Rattle.std.proofs.Common.{◌≡◌, ◌∷◌, [], ◌+◌, Bool, cond, ap, ◌∙◌, arith, length, ◌||◌, ◌&&◌}
 use Rattle.std.specs.Prelude.{count_by}
 use Rattle.std.specs.List.{list_any}
 use Rattle.jm_cmds.specs.declared.history.Sent.{Sent}

@@ -1,4 +1,4 @@
-use Rattle.std.proofs.Common.{◌≡◌, refl, ap, sym, ◌∙◌, length, arith}
+use Rattle.std.proofs.Common.{refl, ap, sym, ◌∙◌, length, arith}
 use Rattle.jm_cmds.specs.History.{standing, below}
 use Rattle.jm_cmds.specs.Sent.{packet_of}
 use Rattle.ch_notes.specs.PolyEvent.{poly_ends}

@@ -1,12 +1,10 @@
-use Rattle.std.proofs.Common.{◌≡◌, ◌+◌, ◌-◌, ◌∷◌, [], List, ℕ, length, ap, sym, ◌∙◌, subst, arith}
+use Rattle.std.proofs.Common.{◌+◌, ◌-◌, ◌∷◌, [], List, ℕ, length, ap, sym, ◌∙◌, subst, arith}
 use Rattle.jm_wire.specs.Octets.{Appends, joined, unchanged}
-use Rattle.jm_cmds.specs.declared.history.Sent.{Sent}
-use Rattle.jm_cmds.specs.History.{standing, coded, below}
-use Rattle.jm_cmds.specs.Sent.{packet_of, s_of}
+use Rattle.jm_cmds.specs.History.{standing}
+use Rattle.jm_cmds.specs.Sent.{s_of}
 use Rattle.ch_notes.specs.PolyEvent.{poly_ends}
-use Rattle.ch_notes.specs.Listed.{texts, count_logs, has_fresh}
 use Rattle.ch_notes.specs.ListedLaws.{listed-none, listed-some}
-use Rattle.ch_notes.specs.ChapterA.{press_at, chapter_a}
+use Rattle.ch_notes.specs.ChapterA.{press_at}
 use Rattle.ch_notes.specs.PressLaws.{chapter_a-standing, logs-keys, logs-fresh}
 use Rattle.ch_notes.proofs.a.plain_write.Goals as goal
 

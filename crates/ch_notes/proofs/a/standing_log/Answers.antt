@@ -1,4 +1,4 @@
-use Rattle.std.proofs.Common.{ap, sym, ◌∙◌}
+use Rattle.std.proofs.Common.{ap, ◌∙◌}
 use Rattle.std.specs.List.{list_any}
 use Rattle.ch_notes.specs.PolyEvent.{poly_at, poly_ends}
 use Rattle.ch_notes.specs.ChapterA.{press_log}

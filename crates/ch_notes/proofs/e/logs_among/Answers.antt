@@ -1,4 +1,4 @@
-use Rattle.std.proofs.Common.{◌≡◌, ◌∷◌, [], ◌+◌, Bool, cond, ap, sym, ◌∙◌, arith, length, ◌||◌, ◌&&◌}
+use Rattle.std.proofs.Common.{◌≡◌, ◌∷◌, [], ◌+◌, Bool, cond, ap, ◌∙◌, arith, length, ◌||◌, ◌&&◌}
 use Rattle.std.specs.List.{list_any}
 use Rattle.std.specs.Option.{is_some}
 use Rattle.jm_cmds.specs.declared.history.Sent.{Sent}
@@ -7,7 +7,7 @@ use Rattle.jm_cmds.specs.Sent.{is_fresh}
 use Rattle.ch_notes.specs.NoteEvent.{note_ends, AreWithin}
 use Rattle.ch_notes.specs.ShapeLaws.{AreWithin-standing}
 use Rattle.ch_notes.specs.Listed.{count_logs, has_fresh}
-use Rattle.ch_notes.specs.ListedLaws.{is_counted, counted_place, fresh_place, one_counted, some-standing}
+use Rattle.ch_notes.specs.ListedLaws.{is_counted, counted_place, fresh_place, one_counted, counted-log}
 use Rattle.ch_notes.specs.ChapterE.{extra_at}
 use Rattle.ch_notes.specs.ExtraLaws.{extra-few-standing}
 use Rattle.ch_notes.proofs.e.logs_among.Goals as goal
@@ -26,7 +26,7 @@ loop-place-preserved c =
     let split : rest ≡ place ∷ later = c.in-Some.ensures in
     let added = c.add-logs.result in
     let stands : Bool = list_any (ends place) later in
-    let is : c.is_some.result ≡ is_counted ends test place later = c.is_some.ensures ∙ ap is_some c.standing_log-log.ensures.log ∙ some-standing stands (extra_at channel session place) in
+    let is : c.is_some.result ≡ is_counted ends test place later = counted-log stands c.is_some.result c.standing_log-log.result (extra_at channel session place) c.is_some.ensures c.standing_log-log.ensures.log in
     let count : added.count ≡ logs.count + cond (is_counted ends test place later) 1 0 = c.add-logs.ensures.count ∙ ap (λ (b : Bool). logs.count + cond b 1 0) is in
     let new : added.fresh ≡ (logs.fresh || (is_counted ends test place later && is_fresh packet place)) =
     c.add-logs.ensures.fresh ∙ ap (λ (b : Bool). logs.fresh || (b && c.is_fresh.result)) is ∙ ap (λ (b : Bool). logs.fresh || (is_counted ends test place later && b)) c.is_fresh.ensures in (

@@ -1,4 +1,4 @@
-use Rattle.std.proofs.Common.{ap, sym, ◌∙◌}
+use Rattle.std.proofs.Common.{ap, ◌∙◌}
 use Rattle.std.specs.List.{list_any}
 use Rattle.ch_notes.specs.NoteEvent.{event_at, note_ends}
 use Rattle.ch_notes.specs.ChapterE.{extra_log}
