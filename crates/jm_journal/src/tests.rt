@@ -207,6 +207,7 @@ fn a_note_past_the_limit(rt: HostRuntime) -> Result<(), Fail> {
     let mut list = Vec::new(alloc);
     for note in 0..64u8 {
         let press: &[u8] = &[0xa2, note, 1];
+        assert_eq!(rt; fits(&rt, &list, 0, press, alloc)?, Fit::Yes);
         push(&mut list, 0, &[press], alloc)?;
     }
     let full = Fit::PolyFull {
@@ -267,6 +268,7 @@ fn messages_past_the_limit(rt: HostRuntime) -> Result<(), Fail> {
     let alloc = rt.alloc();
     let mut list = Vec::new(alloc);
     for _ in 0..128u16 {
+        assert_eq!(rt; fits(&rt, &list, 0, &[0xf0, 0xf7], alloc)?, Fit::Yes);
         push(&mut list, 0, &[&[0xf0, 0xf7]], alloc)?;
     }
     let full = Fit::SysexFull {
