@@ -1,5 +1,5 @@
 -- A channel journal (RFC 6295, section 5, Figure 9): its header, and the chapters of which something is coded.
-use Rattle.std.specs.Prelude.{ℕ, ◌+◌, Bool, true, false, not, ◌||◌, ◌==◌, List, [], ◌∷◌, ◌++◌, length, nat_lt, if◌then◌else◌}
+use Rattle.std.specs.Prelude.{ℕ, ◌+◌, Bool, false, not, ◌||◌, ◌==◌, List, [], ◌++◌, length, nat_lt, if◌then◌else◌}
 use Rattle.jm_wire.specs.declared.heads.ChannelHead.{ChannelHead}
 use Rattle.jm_wire.specs.Heads.{channel_octets}
 use Rattle.jm_cmds.specs.declared.history.Sent.{Sent}

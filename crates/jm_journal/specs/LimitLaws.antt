@@ -1,5 +1,5 @@
 -- What fits keeps the limits, and a later checkpoint does too.
-use Rattle.std.proofs.Common.{◌≡◌, ℕ, ◌+◌, ◌≤◌, ◌<◌, Bool, true, false, ◌||◌, ◌&&◌, List, [], ◌∷◌, ◌++◌, Option, Some, None, length, refl, sym, ap, ◌∙◌, arith, inl, inr}
+use Rattle.std.proofs.Common.{◌≡◌, ℕ, ◌+◌, ◌≤◌, ◌<◌, Bool, true, false, ◌||◌, ◌&&◌, List, [], ◌∷◌, ◌++◌, Option, Some, None, length, refl, ap, arith, inl, inr}
 use Rattle.std.specs.Prelude.{nat_lt, nat_le, ◌==◌, if◌then◌else◌}
 use Rattle.std.proofs.lemmas.Bool.{cases_Bool, eqb-true, or_cases, ltb-true, leb-true, le-ltb}
 use Rattle.jm_cmds.specs.declared.commands.Command.{Command}
@@ -20,7 +20,7 @@ use Rattle.ch_sysex.specs.ChapterX.{sysex_logs, sysex_octets}
 use Rattle.ch_sysex.specs.Limits.{sysex_logs-kept, sysex_octets-kept, sysex_logs-other, sysex_octets-other, sysex_logs-reset-le, sysex_octets-reset-le, sysex_logs-later, sysex_octets-later}
 use Rattle.jm_journal.specs.declared.fits.Fit.{Fit}
 use Rattle.jm_journal.specs.declared.fits.Fit.TheVariants.{Yes, ParamsFull, PolyFull, SysexFull}
-use Rattle.jm_journal.specs.Limits.{KeepsLimits, is_entry, entry_fit, poly_fit, sysex_fit, fit_of}
+use Rattle.jm_journal.specs.Limits.{KeepsLimits, is_entry, entry_fit, poly_fit, fit_of}
 
 -- a test came out true where all but one answer is Yes
 yes_came : (test : Bool) (other : Fit) → (other ≡ Yes → ⊥) → (if test then Yes else other) ≡ Yes → test ≡ true

@@ -15,3 +15,6 @@ mod system;
 
 pub use fits::{Fit, plain_fits};
 pub use journal::{plain_len, plain_write};
+
+#[cfg(test)]
+mod tests;

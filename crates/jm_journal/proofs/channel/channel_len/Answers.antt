@@ -1,4 +1,4 @@
-use Rattle.std.proofs.Common.{◌≡◌, ◌+◌, ◌<◌, length, refl, sym, ap, ◌∙◌, arith, length-append}
+use Rattle.std.proofs.Common.{◌≡◌, ◌<◌, length, refl, arith, length-append}
 use Rattle.jm_wire.specs.Heads.{channel_octets}
 use Rattle.jm_journal.specs.Channel.{channel_chapters, channel_head}
 use Rattle.jm_journal.specs.Lens.{total_length, channel_journal_none, channel_journal_some}

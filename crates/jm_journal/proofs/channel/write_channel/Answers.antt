@@ -1,7 +1,7 @@
-use Rattle.std.proofs.Common.{◌≡◌, ◌+◌, ◌<◌, length, ap, ◌∙◌, arith, length-append}
+use Rattle.std.proofs.Common.{◌≡◌, ◌<◌, length, ap, ◌∙◌, arith, length-append}
 use Rattle.jm_wire.specs.Octets.{joined, unchanged}
 use Rattle.jm_wire.specs.Heads.{channel_octets}
-use Rattle.jm_journal.specs.Channel.{channel_chapters, channel_head, channel_journal}
+use Rattle.jm_journal.specs.Channel.{channel_chapters, channel_head}
 use Rattle.jm_journal.specs.Lens.{total_length, channel_journal_none, channel_journal_some}
 use Rattle.jm_journal.proofs.channel.write_channel.Goals as goal
 

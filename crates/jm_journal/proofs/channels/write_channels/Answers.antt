@@ -1,6 +1,6 @@
-use Rattle.std.proofs.Common.{◌≡◌, ◌≤◌, ◌+◌, ◌++◌, length, length-append, arith}
+use Rattle.std.proofs.Common.{◌≡◌, ◌+◌, ◌++◌, length-append, arith}
 use Rattle.std.specs.List.{flat_map}
-use Rattle.jm_wire.specs.Octets.{Owes, Appends, owes_all, owes_less, owes_nothing}
+use Rattle.jm_wire.specs.Octets.{Owes, Appends, owes_less, owes_nothing}
 use Rattle.jm_journal.specs.Channel.{channel_journal}
 use Rattle.jm_journal.specs.Journal.{channels, channels_from, channels_from_more, channels_from_none}
 use Rattle.jm_journal.proofs.channels.write_channels.Goals as goal

@@ -1,10 +1,7 @@
-use Rattle.std.proofs.Common.{◌≡◌, ◌≤◌, ◌+◌, ◌++◌, length, ap, ◌∙◌, length-append, arith}
-use Rattle.std.specs.List.{flat_map}
+use Rattle.std.proofs.Common.{◌≡◌, ap, ◌∙◌, arith}
 use Rattle.jm_wire.specs.Octets.{joined}
 use Rattle.jm_wire.specs.Heads.{journal_octets}
-use Rattle.jm_journal.specs.Channel.{channel_journal}
-use Rattle.jm_journal.specs.System.{system_journal}
-use Rattle.jm_journal.specs.Journal.{journal, journal_head, journal_length, channels}
+use Rattle.jm_journal.specs.Journal.{journal, journal_head, journal_length}
 use Rattle.jm_journal.proofs.journal.plain_write.Goals as goal
 
 pub push_slice-requires : goal.push_slice-requires

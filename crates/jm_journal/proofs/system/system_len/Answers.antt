@@ -1,4 +1,4 @@
-use Rattle.std.proofs.Common.{◌≡◌, ◌+◌, ◌<◌, length, refl, sym, ap, ◌∙◌, arith, length-append}
+use Rattle.std.proofs.Common.{◌≡◌, ◌<◌, length, refl, arith, length-append}
 use Rattle.jm_wire.specs.Heads.{system_octets}
 use Rattle.jm_journal.specs.System.{system_chapters, system_head}
 use Rattle.jm_journal.specs.Lens.{system_length, system_journal_none, system_journal_some}

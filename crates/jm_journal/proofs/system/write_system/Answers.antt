@@ -1,7 +1,7 @@
-use Rattle.std.proofs.Common.{◌≡◌, ◌+◌, ◌<◌, length, ap, ◌∙◌, arith, length-append}
+use Rattle.std.proofs.Common.{◌≡◌, ◌<◌, length, ap, ◌∙◌, arith, length-append}
 use Rattle.jm_wire.specs.Octets.{joined, unchanged}
 use Rattle.jm_wire.specs.Heads.{system_octets}
-use Rattle.jm_journal.specs.System.{system_chapters, system_head, system_journal}
+use Rattle.jm_journal.specs.System.{system_chapters, system_head}
 use Rattle.jm_journal.specs.Lens.{system_length, system_journal_none, system_journal_some}
 use Rattle.jm_journal.proofs.system.write_system.Goals as goal
 
