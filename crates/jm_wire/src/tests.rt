@@ -30,3 +30,90 @@ fn numbers(rt: HostRuntime) -> Result<(), Fail> {
     assert_eq!(rt; extend16(0x1_FFF0, 0x000F), 0x2_000F);
     Ok(())
 }
+
+/// Each header of a journal with each of its fields: the octets that it packs, and the header that they unpack.
+#[test]
+fn heads(rt: HostRuntime) -> Result<(), Fail> {
+    let journal = JournalHead {
+        s: true,
+        y: false,
+        a: true,
+        h: false,
+        totchan: 5,
+        checkpoint: 0x1234,
+    };
+    assert_eq!(rt; journal.pack(), [0xA5, 0x12, 0x34]);
+    assert_eq!(rt; JournalHead::unpack([0xA5, 0x12, 0x34]), journal);
+    let system = SystemHead {
+        s: false,
+        d: true,
+        v: false,
+        q: true,
+        f: false,
+        x: true,
+        length: 0x3FB,
+    };
+    assert_eq!(rt; system.pack(), [0x57, 0xFB]);
+    assert_eq!(rt; SystemHead::unpack([0x57, 0xFB]), system);
+    let param = ParamHead {
+        s: true,
+        p: false,
+        e: false,
+        u: false,
+        w: false,
+        z: false,
+        length: 6,
+    };
+    assert_eq!(rt; param.pack(), [0x80, 0x06]);
+    assert_eq!(rt; ParamHead::unpack([0x80, 0x06]), param);
+    Ok(())
+}
+
+#[test]
+fn channel_and_chapter_heads(rt: HostRuntime) -> Result<(), Fail> {
+    let channel = ChannelHead {
+        s: false,
+        chan: 9,
+        h: false,
+        length: 0x105,
+        p: true,
+        c: false,
+        m: false,
+        w: false,
+        n: true,
+        e: false,
+        t: true,
+        a: false,
+    };
+    assert_eq!(rt; channel.pack(), [0x49, 0x05, 0x8A]);
+    assert_eq!(rt; ChannelHead::unpack([0x49, 0x05, 0x8A]), channel);
+    let note = NoteHead {
+        b: true,
+        len: 3,
+        low: 15,
+        high: 1,
+    };
+    assert_eq!(rt; note.pack(), [0x83, 0xF1]);
+    assert_eq!(rt; NoteHead::unpack([0x83, 0xF1]), note);
+    let seq = SeqHead {
+        s: false,
+        n: true,
+        d: true,
+        c: true,
+        t: false,
+        top: 2,
+    };
+    assert_eq!(rt; seq.pack(), [0x72]);
+    assert_eq!(rt; SeqHead::unpack([0x72]), seq);
+    let time = TimeHead {
+        s: false,
+        c: true,
+        p: false,
+        q: true,
+        d: false,
+        point: 7,
+    };
+    assert_eq!(rt; time.pack(), [0x57]);
+    assert_eq!(rt; TimeHead::unpack([0x57]), time);
+    Ok(())
+}
