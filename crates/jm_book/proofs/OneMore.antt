@@ -20,10 +20,10 @@ use Rattle.std.proofs.lemmas.List.{append-nil}
 use Rattle.jm_book.specs.declared.steps.Step.{Step}
 use Rattle.jm_book.specs.declared.answers.Acked.TheVariants as acked
 use Rattle.jm_book.specs.declared.answers.Cutted.TheVariants as cutted
-use Rattle.jm_book.specs.Answers.{needs_cut, list_with, delta_with, is_full, is_behind, play_refusal, moves_to, behind_or_sent, cut_answer, most_joined}
+use Rattle.jm_book.specs.Answers.{list_with, delta_with, is_full, is_behind, play_refusal, moves_to, behind_or_sent, cut_answer, most_joined}
 use Rattle.std.specs.Prelude.{is_some, Option}
 use Rattle.std.proofs.lemmas.Bool.{cases_Bool, lt-leb}
-use Rattle.std.proofs.Common.{inl, inr, true}
+use Rattle.std.proofs.Common.{inl, inr}
 use Rattle.jm_book.specs.Legal.{IsTaken}
 use Rattle.jm_book.specs.LegalLaws.{legal_push}
 use Rattle.jm_book.specs.TakenLaws.{unrefused, taken_fits, join_taken}

@@ -1,28 +1,24 @@
 -- After legal steps what is coded keeps the limits of the journal.
-use Rattle.std.proofs.Common.{◌≡◌, ℕ, ◌+◌, ◌≤◌, ◌<◌, Bool, true, false, refl, ap, sym, ◌∙◌, List, [], ◌∷◌, ◌++◌, Option, Some, None, length, arith, append_assoc, append-nil}
-use Rattle.std.specs.Prelude.{not, nat_lt, if◌then◌else◌}
-use Rattle.std.specs.List.{AllByRecursion}
+use Rattle.std.proofs.Common.{◌≡◌, ℕ, ◌+◌, ◌≤◌, true, refl, List, [], ◌∷◌, ◌++◌, Option, Some, None, length, arith, append_assoc, append-nil}
+use Rattle.std.specs.Prelude.{nat_lt}
 use Rattle.std.proofs.lemmas.Bool.{lt-ltb}
 use Rattle.jm_cmds.specs.declared.commands.Command.{Command}
 use Rattle.jm_cmds.specs.declared.history.Sent.{Sent}
 use Rattle.jm_cmds.specs.History.{below}
 use Rattle.jm_cmds.specs.HistoryLaws.{filter_all, AllByRecursion-weaker}
 use Rattle.jm_cmds.specs.Sent.{packet_of}
-use Rattle.jm_journal.specs.declared.fits.Fit.{Fit}
 use Rattle.jm_journal.specs.declared.fits.Fit.TheVariants as fit
-use Rattle.jm_journal.specs.Limits.{KeepsLimits}
 use Rattle.jm_journal.specs.LimitLaws.{limits_none, limits_push, limits_later}
 use Rattle.jm_book.specs.declared.steps.Config.{Config}
 use Rattle.jm_book.specs.declared.steps.Step.{Step}
 use Rattle.jm_book.specs.declared.steps.Step.TheVariants.{Enter, Play, Cut, Ack, Join}
 use Rattle.jm_book.specs.declared.participants.Participant.{Participant}
-use Rattle.jm_book.specs.declared.answers.PlayFault.{PlayFault}
-use Rattle.jm_book.specs.Session.{Session, session_of, after, acknowledged, find_joined, sent_of, pending_of, checkpoint_of, last_sent, tick_after, nothing}
-use Rattle.jm_book.specs.Answers.{fit_after, fit_refusal, play_refusal}
+use Rattle.jm_book.specs.Session.{Session, session_of, after, acknowledged, find_joined, sent_of, pending_of, checkpoint_of, tick_after}
+use Rattle.jm_book.specs.Answers.{fit_after}
 use Rattle.jm_book.specs.Legal.{IsTaken, IsLegal}
 use Rattle.jm_book.specs.Limited.{KeepsBoth}
 use Rattle.jm_book.specs.LegalLaws.{legal_keeps}
-use Rattle.jm_book.specs.LegalJoined.{Participate, Rises, participate_after, none_participate}
+use Rattle.jm_book.specs.LegalJoined.{Participate, participate_after, none_participate}
 use Rattle.jm_book.specs.MarkLaws.{checkpoint_sent}
 use Rattle.jm_book.specs.OrderLaws.{sent_below_next}
 use Rattle.jm_book.specs.StepLaws.{session_push, pending_push, sent_cut}

@@ -1,5 +1,5 @@
 -- Counting coded places: by keys that a later place with the same key ends, or by weights.
-use Rattle.std.proofs.Common.{◌≡◌, ℕ, zero, suc, ◌+◌, ◌≤◌, ◌<◌, Bool, true, false, not, cond, ◌||◌, List, [], ◌∷◌, ◌++◌, Option, Some, None, length, leb, eqb, refl, ap, sym, ◌∙◌, arith, inl, inr, length-append}
+use Rattle.std.proofs.Common.{◌≡◌, ℕ, ◌+◌, ◌≤◌, ◌<◌, Bool, true, false, not, List, [], ◌∷◌, ◌++◌, Option, Some, None, length, leb, eqb, refl, ap, sym, ◌∙◌, arith, inl, inr, length-append}
 use Rattle.std.specs.Prelude.{sum_by}
 use Rattle.std.specs.List.{list_any, filter, filter_map, cons_option, AllByRecursion, IsDistinct}
 use Rattle.std.proofs.lemmas.Bool.{cases_Bool, eqb-true, or_cases}
@@ -7,7 +7,7 @@ use Rattle.std.proofs.lemmas.List.Elements.{filter_map-append}
 use Rattle.std.proofs.lemmas.List.Sums.{sum_by-cons, sum_by-append}
 use Rattle.std.proofs.lemmas.Map.Steps.{length-le_from_distinct_below}
 use Rattle.std.proofs.lemmas.Map.Keys.{IsDistinct-cons}
-use Rattle.jm_cmds.specs.History.{coded, since, Unended}
+use Rattle.jm_cmds.specs.History.{coded, Unended}
 use Rattle.jm_cmds.specs.HistoryLaws.{coded-later, coded-push}
 
 -- how many of these places have a key

@@ -1,7 +1,6 @@
 use Rattle.std.proofs.Common.{◌≡◌, ◌<◌, length, sym, ◌∙◌, Some, arith}
 use Rattle.std.proofs.lemmas.Bool.Decides.{nat_tests}
 use Rattle.jm_book.specs.Session.{session_of, find_joined}
-use Rattle.jm_book.specs.Answers.{moves_to}
 use Rattle.jm_book.proofs.OneMore.{kept_ack, ack_is_taken}
 use Rattle.jm_book.proofs.book.Book.ack.Goals as goal
 

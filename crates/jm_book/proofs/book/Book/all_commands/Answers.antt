@@ -1,5 +1,5 @@
 use Rattle.std.proofs.Common.{◌≤◌, length, arith}
-use Rattle.jm_book.specs.Session.{session_of, sent_of, pending_of}
+use Rattle.jm_book.specs.Session.{session_of}
 use Rattle.jm_book.specs.OrderLaws.{all_in_order}
 use Rattle.jm_book.proofs.book.Book.all_commands.Goals as goal
 

@@ -1,7 +1,7 @@
 use Rattle.std.proofs.Common.{◌≡◌, ◌<◌, ◌∙◌, sym, ap, false, length, arith}
 use Rattle.std.specs.Prelude.{is_some}
 use Rattle.std.proofs.lemmas.Bool.Decides.{nat_tests}
-use Rattle.jm_book.specs.Session.{session_of, find_joined, last_sent, free_slot}
+use Rattle.jm_book.specs.Session.{session_of, find_joined, last_sent}
 use Rattle.jm_book.specs.Answers.{most_joined}
 use Rattle.jm_book.proofs.OneMore.{kept_join, join_is_taken}
 use Rattle.jm_book.proofs.book.Book.join.Goals as goal

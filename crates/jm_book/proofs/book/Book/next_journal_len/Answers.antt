@@ -1,4 +1,4 @@
-use Rattle.std.proofs.Common.{◌≡◌, ◌∙◌, sym, true, false, length, arith}
+use Rattle.std.proofs.Common.{◌≡◌, ◌∙◌, sym, true, false, arith}
 use Rattle.jm_book.specs.Session.{session_of}
 use Rattle.jm_book.specs.Packet.{journal_of_some, journal_of_none}
 use Rattle.jm_book.proofs.book.Book.next_journal_len.Goals as goal

@@ -1,4 +1,4 @@
-use Rattle.std.proofs.Common.{refl, ap, arith, ◌≤◌, ◌≡◌, ◌+◌, ◌++◌, length, length-append}
+use Rattle.std.proofs.Common.{refl, ap, arith, ◌≤◌, ◌≡◌, ◌++◌, length, length-append}
 use Rattle.std.proofs.Math.Seq.{take-append_seam}
 use Rattle.jm_book.specs.Session.{session_of, sent_of, pending_of}
 use Rattle.jm_book.specs.OrderLaws.{sent_in_order}
