@@ -10,7 +10,7 @@ use Rattle.jm_cmds.specs.declared.history.Sent.{Sent}
 use Rattle.jm_cmds.specs.Control.{is_reset}
 use Rattle.jm_cmds.specs.History.{standing, Unended}
 use Rattle.jm_cmds.specs.HistoryLaws.{Unended-standing}
-use Rattle.jm_cmds.specs.Keys.{key_count, EndsKey, keys_all, keys_few}
+use Rattle.jm_cmds.specs.Keys.{key_count, EndsKey, keys_all, keys_few, none_some}
 use Rattle.ch_control.specs.declared.events.ControlEvent.{ControlEvent}
 use Rattle.ch_control.specs.declared.events.ControlEvent.TheVariants.{Set, Dropped, Other}
 use Rattle.ch_control.specs.ControlEvent.{is_entry, item_of, control_event, event_at, event_ends, control_ends, IsWithin, AreWithin}
@@ -58,9 +58,6 @@ NoEntry-event channel (Control at number value) =
       | inr f ↦ rw f tt
     ]
 NoEntry-event channel command = dropped-free (is_reset command)
-
-none_some : (k : ℕ) → None ≡ Some k → ⊥
-none_some k e = cc
 
 meets : (a b : ControlEvent) (k : ℕ) → NoEntry a → NoEntry b → key_of a ≡ Some k → key_of b ≡ Some k → event_ends a b ≡ true
 meets (Set number value) (Set other next) k e f p q =

@@ -3,12 +3,8 @@ use Rattle.std.specs.Prelude.{◌≡◌, ℕ, Bool, false, ◌||◌, List, [], �
 use Rattle.std.specs.List.{AllByRecursion}
 use Rattle.jm_cmds.specs.declared.history.Sent.{Sent}
 use Rattle.jm_cmds.specs.Command.{IsCommand}
+use Rattle.jm_cmds.specs.Sent.{shows_fresh}
 use Rattle.ch_control.specs.ChapterC.{chapter_c, fresh_c}
-
--- whether the S bit of the header is 0
-abbrev pub shows_fresh : List ℕ → Bool
-shows_fresh [] = false
-shows_fresh (first ∷ logs) = nat_lt first 128
 
 -- whether the S bit of one of these logs is 0
 abbrev pub clear_s : List ℕ → Bool

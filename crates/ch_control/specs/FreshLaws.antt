@@ -9,14 +9,14 @@ use Rattle.jm_cmds.specs.Command.{IsCommand}
 use Rattle.jm_cmds.specs.Control.{is_reset}
 use Rattle.jm_cmds.specs.History.{standing, below}
 use Rattle.jm_cmds.specs.HistoryLaws.{AllByRecursion-filter, AllByRecursion-standing, AllByRecursion-weaker, Unended-coded}
-use Rattle.jm_cmds.specs.Sent.{packet_of, is_fresh, s_bit, s_of}
+use Rattle.jm_cmds.specs.Sent.{packet_of, is_fresh, s_bit, s_of, shows_fresh}
 use Rattle.ch_control.specs.declared.events.ControlEvent.{ControlEvent}
 use Rattle.ch_control.specs.declared.events.ControlEvent.TheVariants.{Set, Dropped, Other}
 use Rattle.ch_control.specs.ControlEvent.{is_entry, control_event, event_at, control_ends, IsWithin, AreWithin}
 use Rattle.ch_control.specs.ChapterC.{is_set, event_log, control_log, log_count, has_fresh, with_header, coded_controls, chapter_c, fresh_c}
 use Rattle.ch_control.specs.ChapterLaws.{with_header-some, length-logs}
 use Rattle.ch_control.specs.CountBounds.{log_count-unended}
-use Rattle.ch_control.specs.Fresh.{shows_fresh, clear_s, log_shows_fresh}
+use Rattle.ch_control.specs.Fresh.{clear_s, log_shows_fresh}
 
 dropped-within : (b : Bool) → IsWithin (cond b Dropped Other)
 dropped-within true = tt

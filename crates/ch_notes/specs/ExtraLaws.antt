@@ -3,6 +3,7 @@ use Rattle.std.proofs.Common.{◌≡◌, ℕ, ◌+◌, ◌≤◌, Bool, true, fa
 use Rattle.std.specs.List.{cons_option, AllByRecursion}
 use Rattle.std.specs.Option.{is_some}
 use Rattle.std.proofs.lemmas.List.Sums.{sum_by-cons}
+use Rattle.jm_cmds.specs.Sent.{shows_fresh as header_shows_fresh}
 use Rattle.jm_cmds.specs.declared.history.Sent.{Sent}
 use Rattle.jm_cmds.specs.Command.{IsCommand}
 use Rattle.jm_cmds.specs.History.{standing, coded, below, Unended}
@@ -14,7 +15,7 @@ use Rattle.ch_notes.specs.NoteEvent.{event_at, note_ends, IsWithin, AreWithin}
 use Rattle.ch_notes.specs.CountBounds.{note_of, notes_of, notes-few}
 use Rattle.ch_notes.specs.FreshLaws.{IsWithin-event}
 use Rattle.ch_notes.specs.ChapterN.{coded_notes}
-use Rattle.ch_notes.specs.Listed.{listed, count_logs, has_fresh, header_shows_fresh, log_shows_fresh}
+use Rattle.ch_notes.specs.Listed.{listed, count_logs, has_fresh, log_shows_fresh}
 use Rattle.ch_notes.specs.ListedLaws.{FitsLog, listed-shows}
 use Rattle.ch_notes.specs.ChapterE.{ref_count, extra_log, extra_at, chapter_e, fresh_e}
 

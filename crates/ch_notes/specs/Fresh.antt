@@ -1,12 +1,13 @@
 -- What a chapter shows of the packet before, by its octets alone (RFC 6295, A.6.1 and A.6.2).
 use Rattle.std.specs.Prelude.{◌≡◌, ℕ, zero, suc, ◌%◌, Bool, false, ◌&&◌, ◌||◌, List, [], ◌∷◌, nat_lt, ◌==◌, if◌then◌else◌}
 use Rattle.std.specs.List.{AllByRecursion}
+use Rattle.jm_cmds.specs.Sent.{shows_fresh as header_shows_fresh}
 use Rattle.jm_cmds.specs.declared.history.Sent.{Sent}
 use Rattle.jm_cmds.specs.Command.{IsCommand}
 use Rattle.ch_notes.specs.ChapterN.{chapter_n, fresh_n}
 use Rattle.ch_notes.specs.ChapterE.{chapter_e, fresh_e}
 use Rattle.ch_notes.specs.ChapterA.{chapter_a, fresh_a}
-use Rattle.ch_notes.specs.Listed.{header_shows_fresh, log_shows_fresh}
+use Rattle.ch_notes.specs.Listed.{log_shows_fresh}
 
 -- the number of logs: LEN, but 128 where LEN is 127, LOW 15 and HIGH 0
 abbrev pub log_number : ℕ → ℕ → ℕ

@@ -36,11 +36,6 @@ listed log_at packet places = with_header (count_logs log_at places) (has_fresh 
 
 -- ## What the octets show of the packet before
 
--- whether the S bit of the header is 0
-abbrev pub header_shows_fresh : List ℕ → Bool
-header_shows_fresh [] = false
-header_shows_fresh (first ∷ logs) = nat_lt first 128
-
 -- whether the S bit of one of these logs is 0
 abbrev pub some_clear : List ℕ → Bool
 some_clear [] = false

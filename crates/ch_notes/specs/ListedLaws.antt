@@ -5,12 +5,13 @@ use Rattle.std.specs.List.{list_any, flat_map, AllByRecursion}
 use Rattle.std.specs.Option.{is_some}
 use Rattle.std.proofs.lemmas.Bool.{cases_Bool, ne_eqb, lt-ltb, le-ltb}
 use Rattle.std.proofs.lemmas.List.Sums.{sum_by-cons}
+use Rattle.jm_cmds.specs.Sent.{shows_fresh as header_shows_fresh}
 use Rattle.jm_cmds.specs.declared.history.Sent.{Sent}
 use Rattle.jm_cmds.specs.History.{standing}
 use Rattle.jm_cmds.specs.HistoryLaws.{flat_map-standing}
 use Rattle.jm_cmds.specs.Sent.{is_fresh, s_of, s_bit}
 use Rattle.ch_notes.specs.declared.listed.Log.{Log}
-use Rattle.ch_notes.specs.Listed.{log_text, texts, count_logs, has_fresh, with_header, listed_len, listed, header_shows_fresh, some_clear, log_shows_fresh}
+use Rattle.ch_notes.specs.Listed.{log_text, texts, count_logs, has_fresh, with_header, listed_len, listed, some_clear, log_shows_fresh}
 
 -- ## Counting
 

@@ -5,15 +5,12 @@ use Rattle.jm_cmds.specs.declared.commands.Command.{Command}
 use Rattle.jm_cmds.specs.declared.commands.Command.TheVariants.{PolyPressure}
 use Rattle.jm_cmds.specs.declared.history.Sent.{Sent}
 use Rattle.jm_cmds.specs.Control.{ends_controllers}
-use Rattle.jm_cmds.specs.Keys.{EndsKey, keys_push, keys_none, keys_met, keys_later}
+use Rattle.jm_cmds.specs.Keys.{EndsKey, keys_push, keys_none, keys_met, keys_later, none_some}
 use Rattle.jm_cmds.specs.Sent.{packet_of}
 use Rattle.ch_notes.specs.declared.presses.PolyEvent.{PolyEvent}
 use Rattle.ch_notes.specs.declared.presses.PolyEvent.TheVariants.{Pressed, Dropped, Other}
 use Rattle.ch_notes.specs.PolyEvent.{poly_event, poly_at, poly_event_ends, poly_ends, poly_key, pressed_note, is_poly}
 use Rattle.ch_notes.specs.ChapterA.{poly_count, has_poly}
-
-none_some : (k : ℕ) → None ≡ Some k → ⊥
-none_some k e = cc
 
 meets : (a b : PolyEvent) (k : ℕ) → pressed_note a ≡ Some k → pressed_note b ≡ Some k → poly_event_ends a b ≡ true
 meets (Pressed note value) (Pressed other next) k p q = eq-eqb note other (cc)

@@ -5,6 +5,7 @@ use Rattle.std.specs.List.{list_any, filter_map, cons_option, AllByRecursion}
 use Rattle.std.specs.Option.{is_some}
 use Rattle.std.proofs.lemmas.Bool.{cases_Bool}
 use Rattle.std.proofs.lemmas.List.Sums.{sum_by-cons}
+use Rattle.jm_cmds.specs.Sent.{shows_fresh as header_shows_fresh}
 use Rattle.jm_cmds.specs.declared.commands.Command.{Command}
 use Rattle.jm_cmds.specs.declared.commands.Command.TheVariants.{PolyPressure}
 use Rattle.jm_cmds.specs.declared.history.Sent.{Sent}
@@ -12,13 +13,13 @@ use Rattle.jm_cmds.specs.Command.{IsCommand}
 use Rattle.jm_cmds.specs.Control.{ends_controllers}
 use Rattle.jm_cmds.specs.History.{standing, coded, below, Unended}
 use Rattle.jm_cmds.specs.HistoryLaws.{Unended-standing, Unended-coded, AllByRecursion-filter, AllByRecursion-standing, AllByRecursion-weaker}
-use Rattle.jm_cmds.specs.Keys.{key_count, has_key, keys_all, keys_few}
+use Rattle.jm_cmds.specs.Keys.{key_count, has_key, keys_all, keys_few, none_some}
 use Rattle.jm_cmds.specs.Sent.{packet_of, is_fresh}
 use Rattle.ch_notes.specs.declared.presses.PolyEvent.{PolyEvent}
 use Rattle.ch_notes.specs.declared.presses.PolyEvent.TheVariants.{Pressed, Dropped, Other}
 use Rattle.ch_notes.specs.PolyEvent.{poly_event, poly_at, poly_ends, poly_key, pressed_note, is_pressed, presses, IsWithin, ArePresses}
 use Rattle.ch_notes.specs.PolyLimits.{EndsKey-poly}
-use Rattle.ch_notes.specs.Listed.{listed, count_logs, has_fresh, header_shows_fresh, log_shows_fresh}
+use Rattle.ch_notes.specs.Listed.{listed, count_logs, has_fresh, log_shows_fresh}
 use Rattle.ch_notes.specs.ListedLaws.{FitsLog, listed-shows}
 use Rattle.ch_notes.specs.ChapterA.{press_log, press_at, some_fresh, coded_presses, chapter_a, fresh_a, poly_count}
 
@@ -66,9 +67,6 @@ logs-fresh channel packet session (x ∷ xs) =
     ∙ ap (λ (b : Bool). (is_pressed (poly_at channel x) && is_fresh packet x) || b) (logs-fresh channel packet session xs)
 
 -- ## How many notes
-
-none_some : (k : ℕ) → None ≡ Some k → ⊥
-none_some k e = cc
 
 step-below : (event : PolyEvent) (k : ℕ) → IsWithin event → pressed_note event ≡ Some k → k < 128
 step-below (Pressed note value) k w e = let same : note ≡ k = cc in omega (arith, w, same)

@@ -2,13 +2,8 @@
 use Rattle.std.specs.Prelude.{◌≡◌, ℕ, ◌≤◌, Bool, false, List, [], ◌∷◌, nat_lt}
 use Rattle.jm_cmds.specs.declared.history.Sent.{Sent}
 use Rattle.jm_cmds.specs.History.{below}
-use Rattle.jm_cmds.specs.Sent.{packet_of}
+use Rattle.jm_cmds.specs.Sent.{packet_of, shows_fresh}
 use Rattle.ch_param.specs.ChapterM.{chapter_m, fresh_m, param_count}
-
--- whether the header's S is 0
-abbrev pub shows_fresh : List ℕ → Bool
-shows_fresh [] = false
-shows_fresh (first ∷ rest) = nat_lt first 128
 
 -- The chapter is fresh exactly where it is there and its S is 0.
 abbrev pub FreshShows : Type 0

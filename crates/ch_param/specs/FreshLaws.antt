@@ -5,11 +5,10 @@ use Rattle.std.proofs.lemmas.Bool.{cases_Bool, lt-ltb, le-ltb, eqb-true}
 use Rattle.jm_wire.specs.Heads.{bit}
 use Rattle.jm_cmds.specs.declared.history.Sent.{Sent}
 use Rattle.jm_cmds.specs.History.{below}
-use Rattle.jm_cmds.specs.Sent.{packet_of}
+use Rattle.jm_cmds.specs.Sent.{packet_of, shows_fresh}
 use Rattle.ch_param.specs.Event.{Place}
 use Rattle.ch_param.specs.ChapterM.{Entered, entered, entered_log, fresh_among, param_logs, chapter_of, session_places, chapter_m, fresh_m, param_count}
 use Rattle.ch_param.specs.LogLaws.{logs_short}
-use Rattle.ch_param.specs.Fresh.{shows_fresh}
 
 first-octet : (fresh : Bool) (logs : ℕ) → logs ≤ 80 → ltb (128 * bit (not fresh) + 64 * 0 + 32 * 0 + 16 * 0 + 8 * 0 + 4 * 0 + (2 + logs) / 256) 128 ≡ fresh
 first-octet true logs few = lt-ltb (128 * 0 + 64 * 0 + 32 * 0 + 16 * 0 + 8 * 0 + 4 * 0 + (2 + logs) / 256) 128 (omega arith)

@@ -1,11 +1,11 @@
 -- The latest entry of a parameter is the later of its coded halves.
-use Rattle.std.proofs.Common.{◌≡◌, ℕ, ◌≤◌, Bool, true, cond, ◌||◌, List, [], ◌∷◌, refl, sym, ap, ◌∙◌, inl, inr}
+use Rattle.std.proofs.Common.{◌≡◌, ℕ, ◌≤◌, Bool, true, List, [], ◌∷◌, refl, sym, ap, ◌∙◌, inl, inr}
 use Rattle.std.proofs.Math.Bool.{beq}
 use Rattle.std.specs.List.{list_any, filter_map, AllByRecursion}
 use Rattle.std.proofs.lemmas.Bool.{cases_Bool, or_cases, and_parts}
 use Rattle.jm_cmds.specs.declared.history.Sent.{Sent}
 use Rattle.jm_cmds.specs.History.{InOrder, standing, since, coded, scanned}
-use Rattle.jm_cmds.specs.HistoryLaws.{InOrder-standing, since-standing}
+use Rattle.jm_cmds.specs.HistoryLaws.{InOrder-standing, since-standing, standing-standing}
 use Rattle.jm_cmds.specs.Sent.{packet_of}
 use Rattle.ch_param.specs.declared.selection.Selection.{Selection}
 use Rattle.ch_param.specs.declared.events.ParamEvent.{ParamEvent}
@@ -14,39 +14,6 @@ use Rattle.ch_param.specs.Param.{same_param}
 use Rattle.ch_param.specs.Event.{Place, placed, selection_step, packet_at, event_at, param_event_ends, half_event_ends, param_ends, half_ends}
 use Rattle.ch_param.specs.ChapterM.{entered, entered_at}
 use Rattle.ch_param.specs.HalfLaws.{same_param-equal}
-
--- ## Two notions of what ends what, the first of which ends less
-
-any_weaker : {X : Type 0} (p q : X → Bool) → ((x : X) → p x ≡ true → q x ≡ true) → (xs : List X) → list_any p xs ≡ true → list_any q xs ≡ true
-any_weaker p q w [] h = h
-any_weaker p q w (x ∷ xs) h =
-    elim (or_cases (p x) (list_any p xs) h) [
-      | inl a ↦ rw (w x a) refl
-      | inr b ↦ elim (cases_Bool (q x)) [ inl t ↦ rw t refl | inr f ↦ rw f (any_weaker p q w xs b) ]
-    ]
-
--- a test that passes of what ends a place that passes
-any-standing : {X : Type 0} (ends : X → X → Bool) (test : X → Bool) → ((x y : X) → test x ≡ true → ends x y ≡ true → test y ≡ true) → (xs : List X) → list_any test (standing ends xs) ≡ list_any test xs
-any-standing ends test on [] = refl
-any-standing ends test on (x ∷ xs) =
-    let ih = any-standing ends test on xs in
-    elim (cases_Bool (list_any (ends x) xs)) [
-      | inl t ↦ elim (cases_Bool (test x)) [
-        | inl a ↦ rw (t, a) (ih ∙ any_weaker (ends x) test (λ y e. on x y a e) xs t)
-        | inr b ↦ rw (t, b) ih
-      ]
-      | inr f ↦ rw f (ap (λ (r : Bool). test x || r) ih)
-    ]
-
-standing-standing : {X : Type 0} (less more : X → X → Bool) → ((x y : X) → less x y ≡ true → more x y ≡ true) → ((x y z : X) → more x y ≡ true → less y z ≡ true → more x z ≡ true) →
-    (xs : List X) → standing more (standing less xs) ≡ standing more xs
-standing-standing less more weaker on [] = refl
-standing-standing less more weaker on (x ∷ xs) =
-    let ih = standing-standing less more weaker on xs in
-    elim (cases_Bool (list_any (less x) xs)) [
-      | inl t ↦ rw (t, any_weaker (less x) (more x) (weaker x) xs t) ih
-      | inr f ↦ rw (f, any-standing less (more x) (on x) xs) (ap (λ (r : List _). cond (list_any (more x) xs) r (x ∷ r)) ih)
-    ]
 
 -- ## Halves and parameters
 

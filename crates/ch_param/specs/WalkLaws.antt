@@ -3,6 +3,7 @@ use Rattle.std.proofs.Common.{◌≡◌, ℕ, ◌<◌, Bool, true, false, cond, 
 use Rattle.std.specs.List.{list_any, filter_map, cons_option}
 use Rattle.std.proofs.lemmas.Bool.{cases_Bool}
 use Rattle.jm_cmds.specs.declared.history.Sent.{Sent}
+use Rattle.jm_cmds.specs.HistoryLaws.{filter_map-coded}
 use Rattle.jm_cmds.specs.History.{coded}
 use Rattle.ch_param.specs.declared.param.Param.{Param}
 use Rattle.ch_param.specs.declared.selection.Selection.{Selection}
@@ -26,14 +27,6 @@ coded_param channel from place later = cond (leb from (packet_at place)) (lastin
 pub record IsNext (channel from : ℕ) (places : List Place) (count : ℕ) (param : Param) (latest : Sent) (selection : Selection) (later : List Sent) : Type 0 where
   pub next : entered channel from places ≡ record { param = param; latest = latest } ∷ entered channel from (placed channel selection later)
   pub fewer : length later < count
-
-filter_map-coded : {X Y : Type 0} (ends : X → X → Bool) (at : X → ℕ) (from : ℕ) (f : X → Option Y) (x : X) (xs : List X) →
-    filter_map f (coded ends at from (x ∷ xs)) ≡ cons_option (cond (list_any (ends x) xs) None (cond (leb from (at x)) (f x) None)) (filter_map f (coded ends at from xs))
-filter_map-coded ends at from f x xs =
-    elim (cases_Bool (list_any (ends x) xs)) [
-      | inl t ↦ rw t refl
-      | inr n ↦ elim (cases_Bool (leb from (at x))) [ inl l ↦ rw (n, l) refl | inr o ↦ rw (n, o) refl ]
-    ]
 
 no_entry : (sent : Sent) (ended is_coded : Bool) → cond ended None (cond is_coded (entered_by sent None) None) ≡ entered_by sent (cond is_coded None None)
 no_entry sent true true = refl

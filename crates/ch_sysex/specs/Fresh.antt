@@ -3,7 +3,7 @@ use Rattle.std.specs.Prelude.{◌≡◌, ℕ, Bool, false, List, [], ◌∷◌, 
 use Rattle.std.specs.List.{list_any, flat_map}
 use Rattle.jm_cmds.specs.declared.history.Sent.{Sent}
 use Rattle.jm_cmds.specs.History.{below}
-use Rattle.jm_cmds.specs.Sent.{packet_of}
+use Rattle.jm_cmds.specs.Sent.{packet_of, shows_fresh}
 use Rattle.ch_sysex.specs.ChapterX.{Counted, chapter_x, fresh_x, sysex_log, coded_counted, has_log}
 
 abbrev pub counted_log : Counted → Bool
@@ -12,11 +12,6 @@ counted_log counted = has_log counted.1
 -- the logs of the chapter, one after another
 unfoldable pub logs_x : (from packet : ℕ) → List Sent → List (List ℕ)
 logs_x from packet sent = map (sysex_log packet) (filter counted_log (coded_counted from 0 (below packet_of packet sent)))
-
--- whether a log's S is 0
-abbrev pub shows_fresh : List ℕ → Bool
-shows_fresh [] = false
-shows_fresh (first ∷ rest) = nat_lt first 128
 
 -- the logs one after another are the chapter
 abbrev pub IsOfLogs : Type 0

@@ -5,12 +5,12 @@ use Rattle.std.proofs.lemmas.Bool.{cases_Bool, lt-ltb, le-ltb}
 use Rattle.jm_cmds.specs.declared.history.Sent.{Sent}
 use Rattle.jm_cmds.specs.History.{below, scanned}
 use Rattle.jm_cmds.specs.HistoryLaws.{any-coded, any-scanned}
-use Rattle.jm_cmds.specs.Sent.{packet_of, is_fresh, s_bit, s_of}
+use Rattle.jm_cmds.specs.Sent.{packet_of, is_fresh, s_bit, s_of, shows_fresh}
 use Rattle.ch_sysex.specs.declared.events.SysexEvent.{SysexEvent}
 use Rattle.ch_sysex.specs.declared.events.SysexEvent.TheVariants.{Kept, ResetMessage, Reset, Other}
 use Rattle.ch_sysex.specs.SysexEvent.{event_at, data_of, is_logged, sysex_ends, count_step}
 use Rattle.ch_sysex.specs.ChapterX.{d_bit, last_marked, event_text, Counted, counted_packet, counted_ends, sysex_log, coded_counted, coded_sysex, is_fresh_log, chapter_x, fresh_x}
-use Rattle.ch_sysex.specs.Fresh.{counted_log, logs_x, shows_fresh, IsOfLogs, FreshShows}
+use Rattle.ch_sysex.specs.Fresh.{counted_log, logs_x, IsOfLogs, FreshShows}
 
 -- ## The logs are the chapter
 

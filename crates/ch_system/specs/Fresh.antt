@@ -3,15 +3,11 @@ use Rattle.std.specs.Prelude.{◌≡◌, ℕ, Bool, false, List, [], ◌∷◌, 
 use Rattle.std.specs.List.{AllByRecursion}
 use Rattle.jm_cmds.specs.declared.history.Sent.{Sent}
 use Rattle.jm_cmds.specs.Command.{IsCommand}
+use Rattle.jm_cmds.specs.Sent.{shows_fresh}
 use Rattle.ch_system.specs.ChapterD.{chapter_d, fresh_d}
 use Rattle.ch_system.specs.ChapterV.{chapter_v, fresh_v}
 use Rattle.ch_system.specs.ChapterQ.{chapter_q, fresh_q}
 use Rattle.ch_system.specs.ChapterF.{chapter_f, fresh_f}
-
--- whether the chapter is there and its S is 0
-abbrev pub shows_fresh : List ℕ → Bool
-shows_fresh [] = false
-shows_fresh (first ∷ more) = nat_lt first 128
 
 abbrev pub AreCommands : List Sent → Type 0
 AreCommands sent = AllByRecursion (λ place. IsCommand place.command) sent

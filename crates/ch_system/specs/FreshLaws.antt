@@ -8,7 +8,7 @@ use Rattle.jm_wire.specs.Heads.{bit, seq_octets, time_octets, FitsSeq, FitsTime}
 use Rattle.jm_wire.specs.Numbers.{be16}
 use Rattle.jm_cmds.specs.declared.history.Sent.{Sent}
 use Rattle.jm_cmds.specs.History.{below}
-use Rattle.jm_cmds.specs.Sent.{packet_of, is_fresh, s_of, s_bit}
+use Rattle.jm_cmds.specs.Sent.{packet_of, is_fresh, s_of, s_bit, shows_fresh}
 use Rattle.ch_system.specs.declared.items.SystemItem.TheVariants.{Reset, Tune, Song, Sensing, Sequence, Frames}
 use Rattle.ch_system.specs.declared.sequencing.Sequencer.{Sequencer}
 use Rattle.ch_system.specs.declared.frames.TimeCode.{TimeCode}
@@ -23,7 +23,7 @@ use Rattle.ch_system.specs.ChapterD.{chapter_d, fresh_d, d_head, headed, any_bit
 use Rattle.ch_system.specs.ChapterV.{chapter_v, fresh_v}
 use Rattle.ch_system.specs.ChapterQ.{chapter_q, fresh_q, sequencer_octets, sequencer_head}
 use Rattle.ch_system.specs.ChapterF.{chapter_f, fresh_f, code_octets, code_head, word_octets}
-use Rattle.ch_system.specs.Fresh.{shows_fresh, AreCommands}
+use Rattle.ch_system.specs.Fresh.{AreCommands}
 
 -- an S bit above seven bits
 s-shows : (fresh : Bool) (n : ℕ) → n < 128 → ltb (s_of fresh + n) 128 ≡ fresh

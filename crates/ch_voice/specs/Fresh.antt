@@ -3,11 +3,7 @@ use Rattle.std.specs.Prelude.{◌≡◌, ℕ, Bool, false, List, [], ◌∷◌, 
 use Rattle.std.specs.List.{AllByRecursion}
 use Rattle.jm_cmds.specs.declared.history.Sent.{Sent}
 use Rattle.jm_cmds.specs.Command.{IsCommand}
-
--- whether there is a chapter and its S is 0
-abbrev pub shows_fresh : List ℕ → Bool
-shows_fresh [] = false
-shows_fresh (first ∷ rest) = nat_lt first 128
+use Rattle.jm_cmds.specs.Sent.{shows_fresh}
 
 -- A chapter is fresh exactly where its S is 0.
 abbrev pub FreshShows : ((channel from packet : ℕ) → List Sent → List ℕ) → ((channel from packet : ℕ) → List Sent → Bool) → Type 0

@@ -9,7 +9,7 @@ use Rattle.jm_cmds.specs.Command.{IsCommand}
 use Rattle.jm_cmds.specs.Control.{ends_notes, ends_controllers, is_reset}
 use Rattle.jm_cmds.specs.History.{Unended, standing, coded, below, scanned}
 use Rattle.jm_cmds.specs.HistoryLaws.{Unended-coded, AllByRecursion-filter, AllByRecursion-weaker, AllByRecursion-standing}
-use Rattle.jm_cmds.specs.Sent.{packet_of, is_fresh, s_of}
+use Rattle.jm_cmds.specs.Sent.{packet_of, is_fresh, s_of, shows_fresh}
 use Rattle.ch_voice.specs.declared.bank.Bank.{Bank}
 use Rattle.ch_voice.specs.declared.events.WheelEvent.{WheelEvent}
 use Rattle.ch_voice.specs.declared.events.WheelEvent.TheVariants as wheels
@@ -25,7 +25,7 @@ use Rattle.ch_voice.specs.Bank.{no_bank, bank_step, bank_octets}
 use Rattle.ch_voice.specs.ChapterW.{chapter_w, fresh_w, coded_wheel, wheel_octets, wheel_log}
 use Rattle.ch_voice.specs.ChapterT.{chapter_t, fresh_t, coded_pressure, pressure_octets, pressure_log}
 use Rattle.ch_voice.specs.ChapterP.{Banked, banked_event, banked_packet, program_ends, chapter_p, fresh_p, coded_program, program_octets, program_log}
-use Rattle.ch_voice.specs.Fresh.{shows_fresh, FreshShows}
+use Rattle.ch_voice.specs.Fresh.{FreshShows}
 
 -- ## One item
 

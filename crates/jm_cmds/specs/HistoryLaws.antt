@@ -1,7 +1,7 @@
 -- What holds of every history, whatever ends what.
-use Rattle.std.proofs.Common.{◌≡◌, ℕ, zero, suc, ◌+◌, ◌≤◌, ◌<◌, Bool, true, false, not, cond, ◌||◌, List, [], ◌∷◌, ◌++◌, ltb, leb, eqb, fold, refl, ap, sym, ◌∙◌, arith, inl, inr, take, drop, length, append-nil}
-use Rattle.std.specs.List.{flat_map, list_any, AllByRecursion, filter, AllWithin}
-use Rattle.std.proofs.lemmas.Bool.{cases_Bool, ltb-true, ltb-false, leb-true, le-leb, lt-leb, or_parts}
+use Rattle.std.proofs.Common.{◌≡◌, ℕ, zero, suc, ◌+◌, ◌≤◌, ◌<◌, Bool, true, false, not, cond, ◌||◌, List, [], ◌∷◌, ◌++◌, Option, None, ltb, leb, eqb, fold, refl, ap, sym, ◌∙◌, arith, inl, inr, take, drop, length, append-nil}
+use Rattle.std.specs.List.{flat_map, list_any, AllByRecursion, filter, filter_map, cons_option, AllWithin}
+use Rattle.std.proofs.lemmas.Bool.{cases_Bool, ltb-true, ltb-false, leb-true, le-leb, lt-leb, or_parts, or_cases}
 use Rattle.std.proofs.lemmas.Bool.Decides.{nat_tests}
 use Rattle.std.proofs.lemmas.List.{take-append-drop, get_or-take, get_or-drop, length-take-le, length-drop}
 use Rattle.std.proofs.lemmas.List.Elements.{filter-append, All-from_recursion, recursion_from_All}
@@ -103,6 +103,39 @@ Unended-filter ends p (x ∷ xs) h =
     elim (cases_Bool (p x)) [
       | inl t ↦ rw t (AllByRecursion-filter (λ y. ends x y ≡ false) p xs h.0, ih)
       | inr f ↦ rw f ih
+    ]
+
+pub any_weaker : {X : Type 0} (p q : X → Bool) → ((x : X) → p x ≡ true → q x ≡ true) → (xs : List X) → list_any p xs ≡ true → list_any q xs ≡ true
+any_weaker p q w [] h = h
+any_weaker p q w (x ∷ xs) h =
+    elim (or_cases (p x) (list_any p xs) h) [
+      | inl a ↦ rw (w x a) refl
+      | inr b ↦ elim (cases_Bool (q x)) [ inl t ↦ rw t refl | inr f ↦ rw f (any_weaker p q w xs b) ]
+    ]
+
+-- a test that passes of what ends a place that passes
+pub any-standing : {X : Type 0} (ends : X → X → Bool) (test : X → Bool) → ((x y : X) → test x ≡ true → ends x y ≡ true → test y ≡ true) → (xs : List X) → list_any test (standing ends xs) ≡ list_any test xs
+any-standing ends test on [] = refl
+any-standing ends test on (x ∷ xs) =
+    let ih = any-standing ends test on xs in
+    elim (cases_Bool (list_any (ends x) xs)) [
+      | inl t ↦ elim (cases_Bool (test x)) [
+        | inl a ↦ rw (t, a) (ih ∙ any_weaker (ends x) test (λ y e. on x y a e) xs t)
+        | inr b ↦ rw (t, b) ih
+      ]
+      | inr f ↦ rw f (ap (λ (r : Bool). test x || r) ih)
+    ]
+
+-- Where each place that the lesser notion ends is ended by the greater one, which also ends what it left, standing by the greater
+-- one asks only for what stands by the lesser.
+pub standing-standing : {X : Type 0} (less more : X → X → Bool) → ((x y : X) → less x y ≡ true → more x y ≡ true) → ((x y z : X) → more x y ≡ true → less y z ≡ true → more x z ≡ true) →
+    (xs : List X) → standing more (standing less xs) ≡ standing more xs
+standing-standing less more weaker on [] = refl
+standing-standing less more weaker on (x ∷ xs) =
+    let ih = standing-standing less more weaker on xs in
+    elim (cases_Bool (list_any (less x) xs)) [
+      | inl t ↦ rw (t, any_weaker (less x) (more x) (weaker x) xs t) ih
+      | inr f ↦ rw (f, any-standing less (more x) (on x) xs) (ap (λ (r : List _). cond (list_any (more x) xs) r (x ∷ r)) ih)
     ]
 
 -- ## Order
@@ -258,6 +291,14 @@ fold-coded ends at from step s x xs =
     elim (cases_Bool (list_any (ends x) xs)) [
       | inl t ↦ rw t refl
       | inr f ↦ elim (cases_Bool (leb from (at x))) [ inl l ↦ rw (f, l) refl | inr n ↦ rw (f, n) refl ]
+    ]
+
+pub filter_map-coded : {X Y : Type 0} (ends : X → X → Bool) (at : X → ℕ) (from : ℕ) (f : X → Option Y) (x : X) (xs : List X) →
+    filter_map f (coded ends at from (x ∷ xs)) ≡ cons_option (cond (list_any (ends x) xs) None (cond (leb from (at x)) (f x) None)) (filter_map f (coded ends at from xs))
+filter_map-coded ends at from f x xs =
+    elim (cases_Bool (list_any (ends x) xs)) [
+      | inl t ↦ rw t refl
+      | inr n ↦ elim (cases_Bool (leb from (at x))) [ inl l ↦ rw (n, l) refl | inr o ↦ rw (n, o) refl ]
     ]
 
 pub any-coded : {X : Type 0} (ends : X → X → Bool) (at : X → ℕ) (from : ℕ) (test : X → Bool) (x : X) (xs : List X) → list_any test (coded ends at from (x ∷ xs)) ≡ cond (list_any (ends x) xs) false (cond (leb from (at x)) (test x) false) || list_any test (coded ends at from xs)

@@ -22,6 +22,9 @@ has_key key k xs = list_any (eqb k) (filter_map key xs)
 abbrev pub EndsKey : {X : Type 0} → (X → X → Bool) → (X → Option ℕ) → Type 0
 EndsKey {X} ends key = (x y : X) (k : ℕ) → key x ≡ Some k → key y ≡ Some k → ends x y ≡ true
 
+pub none_some : (k : ℕ) → None ≡ Some k → ⊥
+none_some k e = cc
+
 not_both : (b : Bool) → b ≡ true → b ≡ false → ⊥
 not_both b t f = cc
 

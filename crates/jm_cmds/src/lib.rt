@@ -23,7 +23,7 @@ pub use history::{
 pub use numbers::{Channel, D7, D14};
 pub use outcome::ReadError;
 pub use reading::{CmdFault, read_command};
-pub use system_exclusive::{Sysex, SysexFault};
+pub use system_exclusive::{Sysex, SysexFault, data_len};
 
 #[cfg(test)]
 mod tests;

@@ -10,8 +10,8 @@ use std::alloc::{AllocError, Global};
 use std::marker::Model;
 use thiserror::Error;
 
-/// How many data octets stand at the front.
-pub(crate) fn data_len(octets: &[u8]) -> usize
+/// How many data octets, those below 0x80, stand at the front.
+pub fn data_len(octets: &[u8]) -> usize
     ensures number { result ≡ data_len octets.now }
     ensures bound { result ≤ length octets.now }
 {

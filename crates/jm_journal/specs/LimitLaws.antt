@@ -2,6 +2,7 @@
 use Rattle.std.proofs.Common.{◌≡◌, ℕ, ◌+◌, ◌≤◌, ◌<◌, Bool, true, false, ◌||◌, ◌&&◌, List, [], ◌∷◌, ◌++◌, Option, Some, None, length, refl, ap, arith, inl, inr}
 use Rattle.std.specs.Prelude.{nat_lt, nat_le, ◌==◌, if◌then◌else◌}
 use Rattle.std.proofs.lemmas.Bool.{cases_Bool, eqb-true, or_cases, ltb-true, leb-true, le-ltb}
+use Rattle.jm_cmds.specs.Keys.{none_some}
 use Rattle.jm_cmds.specs.declared.commands.Command.{Command}
 use Rattle.jm_cmds.specs.declared.commands.Command.TheVariants.{Control, PolyPressure, Sysex, SystemReset}
 use Rattle.jm_cmds.specs.declared.history.Sent.{Sent}
@@ -78,9 +79,6 @@ params_keep channel from sent x l fit few =
     ]
 
 -- ## Notes' pressures
-
-none_some : (k : ℕ) → None ≡ Some k → ⊥
-none_some k e = cc
 
 record IsPressure (channel note : ℕ) (command : Command) : Type 0 where
   value : ℕ

@@ -1,7 +1,6 @@
 //! Reading a whole section.
 
 ghost use Rattle.std.specs.Prelude.{◌≡◌, ◌+◌, ◌<◌, ◌≤◌, ◌∷◌, length, take, drop, None, Ok, Err, IfOk, IfErr, IfSome};
-ghost use Rattle.jm_cmds.specs.Data.{data_len};
 ghost use Rattle.jm_cmds.specs.Gives.{Gives};
 ghost use Rattle.jm_cmds.specs.Reading.{command_read};
 ghost use Rattle.jm_section.specs.Grammar.{running_behind, Read, IsSection};
@@ -11,7 +10,7 @@ ghost use Rattle.jm_section.specs.Reading.{GivesBy, head_of, whole, place_less, 
 use crate::header::read_head;
 use crate::item::{Item, PartKind, What};
 use crate::next::running_after;
-use jm_cmds::{CmdFault, Command, ReadError, Sysex, read_command};
+use jm_cmds::{CmdFault, Command, ReadError, Sysex, data_len, read_command};
 use jm_wire::read_delta;
 use std::alloc::Global;
 use thiserror::Error;
@@ -44,19 +43,6 @@ pub enum SectionFault {
     /// The delta field that begins at this place is none.
     #[error("octet {0} begins no delta field")]
     BadDelta(usize),
-}
-
-/// How many data octets stand at the front.
-fn data_len(octets: &[u8]) -> usize
-    ensures number { result ≡ data_len octets.now }
-    ensures bound { result ≤ length octets.now }
-{
-    for (i, octet) in octets.iter().enumerate() {
-        if *octet >= 128 {
-            return i;
-        }
-    }
-    octets.len()
 }
 
 /// The command at the front of these octets, which stand at `place`.
