@@ -1,5 +1,5 @@
 -- What a chapter shows of the packet before, by its octets alone (RFC 6295, A.4, Figure A.4.1).
-use Rattle.std.specs.Prelude.{◌≡◌, ℕ, ◌≤◌, Bool, false, List, [], ◌∷◌, nat_lt}
+use Rattle.std.specs.Prelude.{◌≡◌, ℕ, ◌≤◌, List}
 use Rattle.jm_cmds.specs.declared.history.Sent.{Sent}
 use Rattle.jm_cmds.specs.History.{below}
 use Rattle.jm_cmds.specs.Sent.{packet_of, shows_fresh}

@@ -1,10 +1,8 @@
 -- The coded parameters, one place of the history after another.
-use Rattle.std.proofs.Common.{◌≡◌, ℕ, ◌<◌, Bool, true, false, cond, leb, List, ◌∷◌, Option, Some, None, length, refl, ap, ◌∙◌, inl, inr}
-use Rattle.std.specs.List.{list_any, filter_map, cons_option}
-use Rattle.std.proofs.lemmas.Bool.{cases_Bool}
+use Rattle.std.proofs.Common.{◌≡◌, ℕ, ◌<◌, Bool, true, false, cond, leb, List, ◌∷◌, Option, Some, None, length, refl, ap, ◌∙◌}
+use Rattle.std.specs.List.{list_any, cons_option}
 use Rattle.jm_cmds.specs.declared.history.Sent.{Sent}
 use Rattle.jm_cmds.specs.HistoryLaws.{filter_map-coded}
-use Rattle.jm_cmds.specs.History.{coded}
 use Rattle.ch_param.specs.declared.param.Param.{Param}
 use Rattle.ch_param.specs.declared.selection.Selection.{Selection}
 use Rattle.ch_param.specs.declared.events.ParamEvent.{ParamEvent}

@@ -1,5 +1,5 @@
 -- What Chapter X shows of the packet before, by its octets.
-use Rattle.std.specs.Prelude.{◌≡◌, ℕ, Bool, false, List, [], ◌∷◌, map, filter, nat_lt}
+use Rattle.std.specs.Prelude.{◌≡◌, ℕ, Bool, List, map, filter}
 use Rattle.std.specs.List.{list_any, flat_map}
 use Rattle.jm_cmds.specs.declared.history.Sent.{Sent}
 use Rattle.jm_cmds.specs.History.{below}
