@@ -104,12 +104,10 @@ logs-step from place later =
     (one-choice (list_any (sysex_ends place) later) (leb from place.packet) (is_logged (event_at place))
     ∙ ap (λ (b : Bool). cond b 1 0) (sym (logged-choice (list_any (sysex_ends place) later) (leb from place.packet) (event_at place))))
 
-pub octets_more : (from octets len whole : ℕ) (event : SysexEvent) (text : List ℕ) (place : Sent) (rest later : List Sent) →
-    octets + sum_by log_len (coded_sysex from rest) ≡ whole → rest ≡ place ∷ later → event ≡ coded_event from place later → text ≡ data_of place.command → len ≡ event_len event text →
-    (octets + len) + sum_by log_len (coded_sysex from later) ≡ whole
-octets_more from octets len whole event text place rest later h r e d l =
-    let all : sum_by log_len (coded_sysex from rest) ≡ len + sum_by log_len (coded_sysex from later) = rw (l, e, d, r) (octets-step from place later) in
-    omega (arith, h, all)
+pub octets_more : (from len : ℕ) (event : SysexEvent) (text : List ℕ) (place : Sent) (rest later : List Sent) →
+    rest ≡ place ∷ later → event ≡ coded_event from place later → text ≡ data_of place.command → len ≡ event_len event text →
+    sum_by log_len (coded_sysex from rest) ≡ len + sum_by log_len (coded_sysex from later)
+octets_more from len event text place rest later r e d l = rw (l, e, d, r) (octets-step from place later)
 
 pub logs_more : (from logs whole : ℕ) (logged : Bool) (event : SysexEvent) (place : Sent) (rest later : List Sent) →
     logs + count_by has_log (coded_sysex from rest) ≡ whole → rest ≡ place ∷ later → event ≡ coded_event from place later → logged ≡ is_logged event →

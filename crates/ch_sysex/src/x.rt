@@ -1,6 +1,6 @@
 //! Chapter X: System Exclusive messages (RFC 6295, B.5).
 
-ghost use Rattle.std.specs.Prelude.{◌≡◌, ◌&&◌, ◌≤◌, ◌^◌, length, count_by, sum_by};
+ghost use Rattle.std.specs.Prelude.{◌≡◌, ◌&&◌, ◌≤◌, ◌<◌, ◌-◌, ◌^◌, length, min, count_by, sum_by};
 ghost use Rattle.std.specs.List.{list_any, flat_map};
 ghost use Rattle.jm_wire.specs.Octets.{Appends};
 ghost use Rattle.jm_cmds.specs.History.{InOrder, below};
@@ -14,21 +14,21 @@ use crate::log::{event_len, write_event};
 use jm_cmds::{Sent, first_place, session_history};
 use jm_wire::Octets;
 
-/// The logs and the octets that the chapter has from the checkpoint on, were all of these places sent.
+/// The logs and the octets that the chapter has from the checkpoint on, were all of these places sent. Octets
+/// past 64 bits are told as the greatest number that 64 bits hold.
 fn room_of(places: &[Sent], from: u64) -> (usize, usize)
-    requires { length places.now ≤ 2 ^ 32 }
     ensures logs { result.0 ≡ count_by has_log (coded_sysex from places.now) }
-    ensures octets { result.1 ≡ sum_by log_len (coded_sysex from places.now) }
+    ensures octets { result.1 ≡ min (sum_by log_len (coded_sysex from places.now)) (2 ^ 64 - 1) }
 {
     let mut logs = 0;
-    let mut octets = 0;
+    let mut octets = 0usize;
     let mut rest = places;
     while let Some((place, later)) = first_place(rest) {
         let event = coded_event(place, later, from);
         if is_logged(event) {
             logs += 1;
         }
-        octets += event_len(event, data_of(&place.command));
+        octets = octets.saturating_add(event_len(event, data_of(&place.command)));
         rest = later;
     }
     (logs, octets)
@@ -80,11 +80,10 @@ fn write_logs(places: &[Sent], from: u64, packet: u64, out: &mut Octets)
 /// The number of Chapter X's octets in the journal of this packet. It is 0 where no message is coded.
 ///
 /// The list is the session's history, and may go past the packet. `from` is the journal's checkpoint. The
-/// chapter has no bound of its own; a history of at most 2^32 commands keeps its length a number of 64
-/// bits.
+/// length has to be a number of 64 bits, as it is of each chapter within the limit of 1,000 octets.
 pub fn plain_len(list: &[Sent], from: u64, packet: u64, tick: u64) -> usize
     requires order { InOrder packet_of list.now }
-    requires few { length list.now ≤ 2 ^ 32 }
+    requires limit { sysex_octets from (below packet_of packet list.now) < 2 ^ 64 }
     ensures number { result ≡ length (chapter_x from packet list.now) }
     ensures octets { result ≡ sysex_octets from (below packet_of packet list.now) }
 {
@@ -113,12 +112,12 @@ pub fn plain_fresh(list: &[Sent], from: u64, packet: u64) -> bool
     is_any_fresh(session_history(list, packet), from, packet)
 }
 
-/// The logs and the octets that the chapter has with this checkpoint, were the whole list sent.
+/// The logs and the octets that the chapter has with this checkpoint, were the whole list sent. Octets past 64
+/// bits, which no machine's memory holds, are told as 2^64 - 1.
 #[tactic(auto, unfolding(crate::specs::ChapterX::sysex_logs, crate::specs::ChapterX::sysex_octets))]
 pub fn plain_room(list: &[Sent], from: u64) -> (usize, usize)
-    requires { length list.now ≤ 2 ^ 32 }
     ensures logs { result.0 ≡ sysex_logs from list.now }
-    ensures octets { result.1 ≡ sysex_octets from list.now }
+    ensures octets { result.1 ≡ min (sysex_octets from list.now) (2 ^ 64 - 1) }
 {
     room_of(list, from)
 }

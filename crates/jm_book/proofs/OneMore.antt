@@ -67,7 +67,6 @@ kept_ack config tape tape' joined joined' progress ssrc seq one kept found is_mo
       };
       joined_are = rw then_is refl;
       few_joined = omega (arith, few, kept.few_joined);
-      few_commands = rw same (omega (arith, longer, kept.few_commands));
       legal = rw stepped (legal_push config tape.steps (Ack ssrc seq) kept.legal taken);
       few_steps = omega (arith, longer);
       few_packets = omega (arith, longer, kept.few_packets);
@@ -121,7 +120,6 @@ kept_play config tape tape' joined progress player tick command kept refused ste
       };
       joined_are = rw then_is kept.joined_are;
       few_joined = kept.few_joined;
-      few_commands = omega (arith, longer, counted, kept.few_commands);
       legal = rw stepped (legal_push config tape.steps (Play player command tick) kept.legal is_taken);
       few_steps = omega (arith, longer);
       few_packets = omega (arith, longer, kept.few_packets);
@@ -167,7 +165,6 @@ kept_cut config tape tape' joined progress tick kept taken stepped same =
       };
       joined_are = rw then_is kept.joined_are;
       few_joined = kept.few_joined;
-      few_commands = rw same (omega (arith, longer, kept.few_commands));
       legal = rw stepped (legal_push config tape.steps (Cut tick) kept.legal taken);
       few_steps = omega (arith, longer);
       few_packets = omega (arith, longer, kept.few_packets);
@@ -205,7 +202,6 @@ kept_enter config tape tape' joined progress kept taken few stepped same =
       };
       joined_are = rw then_is kept.joined_are;
       few_joined = kept.few_joined;
-      few_commands = rw same (omega (arith, longer, kept.few_commands));
       legal = rw stepped (legal_push config tape.steps Enter kept.legal taken);
       few_steps = omega (arith, longer);
       few_packets = omega (arith, longer, kept.few_packets);
@@ -248,7 +244,6 @@ kept_join config tape tape' joined joined' progress ssrc kept taken more stepped
       };
       joined_are = rw then_is refl;
       few_joined = omega (arith, one_more, joined_len, few);
-      few_commands = rw same (omega (arith, longer, kept.few_commands));
       legal = rw stepped (legal_push config tape.steps (Join ssrc) kept.legal taken);
       few_steps = omega (arith, longer);
       few_packets = omega (arith, longer, kept.few_packets);

@@ -34,7 +34,6 @@ pub record IsKept (config : Config) (tape : Taped) (joined : List Participant) (
   pub counts : Counts progress tape.commands (session_of tape.steps)
   pub joined_are : joined ≡ (session_of tape.steps).joined
   pub few_joined : length joined ≤ most_joined
-  pub few_commands : length tape.commands ≤ length tape.steps
   pub legal : IsLegal config tape.steps
   pub few_steps : length tape.steps ≤ config.events
   pub few_packets : progress.packets ≤ length tape.steps

@@ -85,7 +85,7 @@ impl Book {
     pub(crate) fn all_commands(&self) -> &[Sent]
         ensures commands { result.now ≡ sent_of (session_of self.now.steps) ++ pending_of (session_of self.now.steps) }
         ensures order { InOrder sent_packet result.now }
-        ensures few { length result.now ≤ 4194304 }
+        ensures limits { KeepsLimits (checkpoint_of (session_of self.now.steps)) result.now }
     {
         self.tape.commands()
     }
@@ -94,7 +94,6 @@ impl Book {
     fn sent_commands(&self) -> &[Sent]
         ensures commands { result.now ≡ sent_of (session_of self.now.steps) }
         ensures order { InOrder sent_packet result.now }
-        ensures few { length result.now ≤ 4194304 }
         ensures limits { KeepsLimits (checkpoint_of (session_of self.now.steps)) (below sent_packet (length (session_of self.now.steps).packets) result.now) }
     {
         &self.tape.commands()[..self.progress.first_pending]

@@ -1,5 +1,5 @@
 -- What fits keeps the limits, and a later checkpoint does too.
-use Rattle.std.proofs.Common.{◌≡◌, ℕ, ◌+◌, ◌≤◌, ◌<◌, Bool, true, false, ◌||◌, ◌&&◌, List, [], ◌∷◌, ◌++◌, Option, Some, None, length, refl, ap, arith, inl, inr}
+use Rattle.std.proofs.Common.{◌≡◌, ℕ, ◌+◌, ◌-◌, ◌^◌, ◌≤◌, ◌<◌, min, Bool, true, false, ◌||◌, ◌&&◌, List, [], ◌∷◌, ◌++◌, Option, Some, None, length, refl, ap, arith, inl, inr}
 use Rattle.std.specs.Prelude.{nat_lt, nat_le, ◌==◌, if◌then◌else◌}
 use Rattle.std.proofs.lemmas.Bool.{cases_Bool, eqb-true, or_cases, ltb-true, leb-true, le-ltb}
 use Rattle.jm_cmds.specs.Keys.{none_some}
@@ -21,7 +21,7 @@ use Rattle.ch_sysex.specs.ChapterX.{sysex_logs, sysex_octets}
 use Rattle.ch_sysex.specs.Limits.{sysex_logs-kept, sysex_octets-kept, sysex_logs-other, sysex_octets-other, sysex_logs-reset-le, sysex_octets-reset-le, sysex_logs-later, sysex_octets-later}
 use Rattle.jm_journal.specs.declared.fits.Fit.{Fit}
 use Rattle.jm_journal.specs.declared.fits.Fit.TheVariants.{Yes, ParamsFull, PolyFull, SysexFull}
-use Rattle.jm_journal.specs.Limits.{KeepsLimits, is_entry, entry_fit, poly_fit, fit_of}
+use Rattle.jm_journal.specs.Limits.{KeepsLimits, is_entry, entry_fit, control_fit, poly_fit, sysex_fit, fit_of, told}
 
 -- a test came out true where all but one answer is Yes
 yes_came : (test : Bool) (other : Fit) → (other ≡ Yes → ⊥) → (if test then Yes else other) ≡ Yes → test ≡ true
@@ -190,6 +190,44 @@ room_keeps from sent x Other l event fit room =
     let logs = sysex_logs-other from sent x l (rw event refl) in
     let octets = sysex_octets-other from sent x l (rw event refl) in
     record { logs = omega (arith, logs, room.logs); octets = omega (arith, octets, room.octets) }
+
+-- ## The answer in numbers of 64 bits
+
+told_entry : (channel from : ℕ) (sent : List Sent) (found : Option (Bool × ℕ × ℕ)) → told (entry_fit channel from sent found) ≡ entry_fit channel from sent found
+told_entry channel from sent None = refl
+told_entry channel from sent (Some parameter) =
+    elim (cases_Bool (nat_lt (param_count channel from sent) 16 || has_param channel from parameter.0 parameter.1 parameter.2 sent)) [ inl t ↦ rw t refl | inr f ↦ rw f refl ]
+
+pub told_control : (channel number from : ℕ) (sent : List Sent) → told (control_fit channel number from sent) ≡ control_fit channel number from sent
+told_control channel number from sent =
+    elim (cases_Bool (is_entry number)) [ inl t ↦ rw t (told_entry channel from sent (selected channel sent)) | inr f ↦ rw f refl ]
+
+pub told_poly : (channel note from : ℕ) (sent : List Sent) → told (poly_fit channel note from sent) ≡ poly_fit channel note from sent
+told_poly channel note from sent =
+    elim (cases_Bool (nat_lt (poly_count channel from sent) 64 || has_poly channel from note sent)) [ inl t ↦ rw t refl | inr f ↦ rw f refl ]
+
+told_sysex : (octets : List ℕ) (from : ℕ) (sent : List Sent) → sysex_octets from sent < 2 ^ 64 → told (sysex_fit octets from sent) ≡ sysex_fit octets from sent
+told_sysex octets from sent few =
+    let size = sysex_octets from sent in
+    let same : min size (2 ^ 64 - 1) ≡ size = omega (arith, few) in
+    elim (cases_Bool (nat_lt 254 (length octets) || is_reset_message octets)) [
+      | inl t ↦ rw t refl
+      | inr f ↦ rw f (elim (cases_Bool (nat_lt (sysex_logs from sent) 128 && nat_le (size + (2 + length octets)) 1000)) [
+        | inl t ↦ rw t refl
+        | inr n ↦ rw n (ap (λ (o : ℕ). SysexFull (sysex_logs from sent) o) same)
+      ])
+    ]
+
+-- Where Chapter X's octets are a number of 64 bits, as those within its limit are, the answer is whole.
+pub told_whole : (from : ℕ) (sent : List Sent) (command : Command) → sysex_octets from sent < 2 ^ 64 → told (fit_of from sent command) ≡ fit_of from sent command
+unfolding fit_of
+told_whole from sent (Control channel number value) few = told_control channel number from sent
+told_whole from sent (PolyPressure channel note value) few = told_poly channel note from sent
+told_whole from sent (Sysex octets) few = told_sysex octets from sent few
+told_whole from sent command few = refl
+
+pub told_kept : (from : ℕ) (sent : List Sent) (command : Command) → KeepsLimits from sent → told (fit_of from sent command) ≡ fit_of from sent command
+told_kept from sent command keeps = told_whole from sent command (omega (arith, keeps.octets))
 
 -- ## All limits
 

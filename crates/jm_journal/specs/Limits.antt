@@ -1,5 +1,5 @@
 -- Which command fits: the limits of Chapters M, A and X over the commands from a checkpoint on.
-use Rattle.std.specs.Prelude.{ℕ, ◌+◌, ◌≤◌, ◌<◌, Bool, ◌||◌, ◌&&◌, List, Option, Some, None, length, nat_le, nat_lt, ◌==◌, if◌then◌else◌}
+use Rattle.std.specs.Prelude.{ℕ, ◌+◌, ◌-◌, ◌^◌, ◌≤◌, ◌<◌, min, Bool, ◌||◌, ◌&&◌, List, Option, Some, None, length, nat_le, nat_lt, ◌==◌, if◌then◌else◌}
 use Rattle.jm_cmds.specs.declared.commands.Command.{Command}
 use Rattle.jm_cmds.specs.declared.commands.Command.TheVariants.{Control, PolyPressure, Sysex}
 use Rattle.jm_cmds.specs.declared.history.Sent.{Sent}
@@ -52,3 +52,10 @@ fit_of from sent (Control channel number value) = control_fit channel number fro
 fit_of from sent (PolyPressure channel note value) = poly_fit channel note from sent
 fit_of from sent (Sysex octets) = sysex_fit octets from sent
 fit_of from sent _ = Yes
+
+-- An answer in numbers of 64 bits: octets past them are told as the greatest of them.
+abbrev pub told : Fit → Fit
+told Yes = Yes
+told (ParamsFull channel kept) = ParamsFull channel kept
+told (PolyFull channel kept) = PolyFull channel kept
+told (SysexFull logs octets) = SysexFull logs (min octets (2 ^ 64 - 1))

@@ -1,11 +1,11 @@
 //! Which command fits.
 
-ghost use Rattle.std.specs.Prelude.{◌≡◌, ◌≤◌, length};
+ghost use Rattle.std.specs.Prelude.{◌≡◌};
 ghost use Rattle.jm_cmds.specs.History.{InOrder};
 ghost use Rattle.jm_cmds.specs.Sent.{packet_of};
 ghost use Rattle.jm_cmds.specs.Control.{is_reset_message};
 ghost use Rattle.ch_param.specs.ChapterM.{selected};
-ghost use Rattle.jm_journal.specs.Limits.{is_entry, entry_fit, control_fit, poly_fit, sysex_fit, fit_of};
+ghost use Rattle.jm_journal.specs.Limits.{is_entry, entry_fit, control_fit, poly_fit, sysex_fit, fit_of, told};
 
 use ch_notes::a;
 use ch_param::m;
@@ -78,8 +78,7 @@ fn poly_fit(list: &[Sent], channel: Channel, from: u64, note: D7) -> Fit
 fn sysex_fit(list: &[Sent], from: u64, message: &Sysex, is_reset: bool) -> Fit
     requires order { InOrder packet_of list.now }
     requires reset { is_reset ≡ is_reset_message message.now }
-    requires few { length list.now ≤ 4294967296 }
-    ensures { result ≡ sysex_fit message.now from list.now }
+    ensures { result ≡ told (sysex_fit message.now from list.now) }
 {
     if message.len() > LONGEST_KEPT || is_reset {
         return Fit::Yes;
@@ -93,13 +92,14 @@ fn sysex_fit(list: &[Sent], from: u64, message: &Sysex, is_reset: bool) -> Fit
 
 /// Whether this command fits behind those of the list, were they all sent, for a journal with the checkpoint
 /// `from`: what is coded then keeps the limits of 16 parameters and 64 notes' pressures in a channel, and of
-/// 128 SysEx in 1,000 octets. A command that drops or renews what is coded fits always. The list has at most
-/// 2^32 commands.
+/// 128 SysEx in 1,000 octets. A command that drops or renews what is coded fits always.
+///
+/// The list may be any in order. Octets of Chapter X past 64 bits, which no machine's memory holds, are told
+/// as 2^64 - 1; within 64 bits the answer is `fit_of` as it is (`laws::keeps_what_fits`).
 #[tactic(auto, unfolding(crate::specs::Limits::fit_of))]
 pub fn plain_fits(list: &[Sent], from: u64, c: &Command) -> Fit
-    requires order { InOrder packet_of list.now }
-    requires few { length list.now ≤ 4294967296 }
-    ensures { result ≡ fit_of from list.now c.now }
+    requires { InOrder packet_of list.now }
+    ensures { result ≡ told (fit_of from list.now c.now) }
 {
     match c {
         Command::Control {

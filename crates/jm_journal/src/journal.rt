@@ -29,7 +29,6 @@ fn is_fresh(list: &[Sent], span: Span) -> bool
 fn head_of(list: &[Sent], span: Span) -> JournalHead
     requires order { InOrder packet_of list.now }
     requires limits { KeepsLimits span.from (below packet_of span.packet list.now) }
-    requires few { length list.now ≤ 4294967296 }
     ensures head { result ≡ journal_head span.from span.packet span.tick list.now }
     ensures fits { FitsJournal result }
 {
@@ -48,11 +47,10 @@ fn head_of(list: &[Sent], span: Span) -> JournalHead
 /// `from` on and before it: 3 where nothing is coded, at most 16,958.
 ///
 /// The list is the session's history, and may go past the packet. What is coded of the packets before it
-/// keeps the limits of Chapters M, A and X, and the list has at most 2^32 commands.
+/// keeps the limits of Chapters M, A and X.
 pub fn plain_len(list: &[Sent], from: u64, packet: u64, tick: u64) -> usize
     requires order { InOrder packet_of list.now }
     requires limits { KeepsLimits from (below packet_of packet list.now) }
-    requires few { length list.now ≤ 4294967296 }
     ensures number { result ≡ length (journal from packet tick list.now) }
     ensures bound { result ≤ 16958 }
     ensures parts { HasShortParts from packet tick list.now }
@@ -65,7 +63,6 @@ pub fn plain_len(list: &[Sent], from: u64, packet: u64, tick: u64) -> usize
 pub fn plain_write(list: &[Sent], from: u64, packet: u64, tick: u64, out: &mut Octets)
     requires order { InOrder packet_of list.now }
     requires limits { KeepsLimits from (below packet_of packet list.now) }
-    requires few { length list.now ≤ 4294967296 }
     requires spare { length (journal from packet tick list.now) ≤ out.old.spare }
     ensures { Appends out.old out.new (journal from packet tick list.now) }
 {

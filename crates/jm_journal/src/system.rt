@@ -30,7 +30,6 @@ impl SystemLens {
     fn of(list: &[Sent], span: Span) -> SystemLens
         requires order { InOrder packet_of list.now }
         requires limits { KeepsLimits span.from (below packet_of span.packet list.now) }
-        requires few { length list.now ≤ 4294967296 }
         ensures octets { AreSystemLens span.from span.packet list.now result }
         ensures short { AreSystemShort result }
     {
@@ -110,7 +109,6 @@ fn write_chapters(list: &[Sent], span: Span, out: &mut Octets)
 pub(crate) fn system_len(list: &[Sent], span: Span) -> usize
     requires order { InOrder packet_of list.now }
     requires limits { KeepsLimits span.from (below packet_of span.packet list.now) }
-    requires few { length list.now ≤ 4294967296 }
     ensures value { result ≡ length (system_journal span.from span.packet list.now) }
     ensures bound { result ≤ 1019 }
 {
@@ -122,7 +120,6 @@ pub(crate) fn system_len(list: &[Sent], span: Span) -> usize
 pub(crate) fn write_system(list: &[Sent], span: Span, out: &mut Octets)
     requires order { InOrder packet_of list.now }
     requires limits { KeepsLimits span.from (below packet_of span.packet list.now) }
-    requires few { length list.now ≤ 4294967296 }
     requires spare { length (system_journal span.from span.packet list.now) ≤ out.old.spare }
     ensures written { Appends out.old out.new (system_journal span.from span.packet list.now) }
     ensures bound { length (system_journal span.from span.packet list.now) ≤ 1019 }

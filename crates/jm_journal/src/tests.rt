@@ -17,8 +17,7 @@ use std::test::Fail;
 
 /// Whether what is coded of these commands for this checkpoint keeps the limits.
 fn keeps_limits(list: &[Sent], from: u64) -> bool
-    requires order { InOrder packet_of list.now }
-    requires few { length list.now ≤ 4294967296 }
+    requires { InOrder packet_of list.now }
     ensures { IsTrue result → KeepsLimits from list.now }
 {
     for number in 0..16u8 {
@@ -58,10 +57,8 @@ fn check<R: Abort>(
     journal: &[u8],
     alloc: Global,
 ) -> Result<(), AllocError> {
-    assert!(rt; list.len() < 1000);
     assert!(rt; in_order(list));
     let session = session_history(list, packet);
-    assert!(rt; session.len() < 1000);
     assert!(rt; keeps_limits(session, from));
     let len = plain_len(list, from, packet, 0);
     let mut out = Octets::with_room(len, alloc)?;
@@ -91,7 +88,6 @@ fn fits<R: Abort>(
     octets: &[u8],
     alloc: Global,
 ) -> Result<Fit, Fail> {
-    assert!(rt; list.len() < 1000);
     assert!(rt; in_order(list));
     Ok(plain_fits(list, from, &command(octets, alloc)?))
 }

@@ -1,4 +1,4 @@
-use Rattle.std.proofs.Common.{◌≡◌, ◌+◌, ◌*◌, ◌≤◌, length}
+use Rattle.std.proofs.Common.{◌≡◌, ◌+◌, ◌-◌, ◌^◌, ◌≤◌, length, min}
 use Rattle.std.specs.Prelude.{sum_by, count_by}
 use Rattle.ch_sysex.specs.ChapterX.{coded_sysex, has_log, log_len}
 use Rattle.ch_sysex.proofs.x.room_of.Given as goal
@@ -6,9 +6,9 @@ use Rattle.ch_sysex.proofs.x.room_of.Given as goal
 abbrev pub invariant-loop-place : goal.invariant-loop-place
 invariant-loop-place l =
     (l.logs + count_by has_log (coded_sysex l.from l.rest) ≡ count_by has_log (coded_sysex l.from l.places))
-    × (l.octets + sum_by log_len (coded_sysex l.from l.rest) ≡ sum_by log_len (coded_sysex l.from l.places))
+    × (min (l.octets + sum_by log_len (coded_sysex l.from l.rest)) (2 ^ 64 - 1) ≡ min (sum_by log_len (coded_sysex l.from l.places)) (2 ^ 64 - 1))
     × (l.logs + length l.rest ≤ length l.places)
-    × (l.octets + 2048 * length l.rest ≤ 2048 * length l.places)
+    × (l.octets ≤ 2 ^ 64 - 1)
 
 abbrev pub decreases-loop-place : goal.decreases-loop-place
 decreases-loop-place l = length l.rest
