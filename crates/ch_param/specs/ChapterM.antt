@@ -7,11 +7,11 @@ use Rattle.jm_wire.specs.Heads.{bit, param_octets}
 use Rattle.jm_cmds.specs.declared.history.Sent.{Sent}
 use Rattle.jm_cmds.specs.History.{coded, below}
 use Rattle.jm_cmds.specs.Sent.{packet_of, is_fresh, s_bit}
-use Rattle.ch_param.specs.declared.param.Param.{Param}
+use Rattle.jm_cmds.specs.declared.param.Param.{Param}
 use Rattle.ch_param.specs.declared.events.ParamEvent.{ParamEvent}
 use Rattle.ch_param.specs.declared.events.ParamEvent.TheVariants.{Entry, Cleared, Other}
-use Rattle.ch_param.specs.Param.{same_param}
-use Rattle.ch_param.specs.Selection.{no_selection, selected_param}
+use Rattle.jm_cmds.specs.Param.{same_param}
+use Rattle.jm_cmds.specs.Selection.{no_selection, selected_param}
 use Rattle.ch_param.specs.Event.{Place, placed, selection_step, packet_at, event_at, param_ends, half_ends}
 
 -- ## What is coded

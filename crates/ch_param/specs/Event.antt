@@ -3,14 +3,14 @@ use Rattle.std.specs.Prelude.{ℕ, Bool, true, false, ◌&&◌, List, Option, So
 use Rattle.std.proofs.Math.Bool.{beq}
 use Rattle.jm_cmds.specs.declared.history.Sent.{Sent}
 use Rattle.jm_cmds.specs.History.{scanned}
-use Rattle.ch_param.specs.declared.param.Param.{Param}
-use Rattle.ch_param.specs.declared.selection.ParamCommand.{ParamCommand}
-use Rattle.ch_param.specs.declared.selection.ParamCommand.TheVariants.{Select, Enter, Unselect, Clear, Pass}
-use Rattle.ch_param.specs.declared.selection.Selection.{Selection}
+use Rattle.jm_cmds.specs.declared.param.Param.{Param}
+use Rattle.jm_cmds.specs.declared.selection.ParamCommand.{ParamCommand}
+use Rattle.jm_cmds.specs.declared.selection.ParamCommand.TheVariants.{Select, Enter, Unselect, Clear, Pass}
+use Rattle.jm_cmds.specs.declared.selection.Selection.{Selection}
 use Rattle.ch_param.specs.declared.events.ParamEvent.{ParamEvent}
 use Rattle.ch_param.specs.declared.events.ParamEvent.TheVariants.{Entry, Cleared, Other}
-use Rattle.ch_param.specs.Param.{same_param}
-use Rattle.ch_param.specs.Selection.{param_command, selection_after, selected_param}
+use Rattle.jm_cmds.specs.Param.{same_param}
+use Rattle.jm_cmds.specs.Selection.{param_command, selection_after, selected_param}
 
 -- a half of the value of the parameter that is selected, if one is
 abbrev pub entry : Bool → ℕ → Option Param → ParamEvent

@@ -3,10 +3,10 @@ use Rattle.std.proofs.Common.{◌≡◌, ℕ, Bool, true, false, cond, ◌&&◌,
 use Rattle.std.proofs.Math.Bool.{beq}
 use Rattle.std.specs.List.{list_any}
 use Rattle.std.proofs.lemmas.Bool.{cases_Bool, and_parts, or_parts, eqb-true}
-use Rattle.ch_param.specs.declared.param.Param.{Param}
+use Rattle.jm_cmds.specs.declared.param.Param.{Param}
 use Rattle.ch_param.specs.declared.events.ParamEvent.{ParamEvent}
 use Rattle.ch_param.specs.declared.events.ParamEvent.TheVariants.{Entry, Cleared, Other}
-use Rattle.ch_param.specs.Param.{same_param}
+use Rattle.jm_cmds.specs.Param.{same_param}
 use Rattle.ch_param.specs.Event.{Place, packet_at, event_at, takes_half, half_ends, half_event_ends}
 use Rattle.ch_param.specs.ChapterM.{is_half, event_value, coded_half}
 

@@ -7,10 +7,10 @@ use Rattle.jm_cmds.specs.declared.history.Sent.{Sent}
 use Rattle.jm_cmds.specs.History.{InOrder, standing, since, coded, scanned}
 use Rattle.jm_cmds.specs.HistoryLaws.{InOrder-standing, since-standing, standing-standing}
 use Rattle.jm_cmds.specs.Sent.{packet_of}
-use Rattle.ch_param.specs.declared.selection.Selection.{Selection}
+use Rattle.jm_cmds.specs.declared.selection.Selection.{Selection}
 use Rattle.ch_param.specs.declared.events.ParamEvent.{ParamEvent}
 use Rattle.ch_param.specs.declared.events.ParamEvent.TheVariants.{Entry, Cleared, Other}
-use Rattle.ch_param.specs.Param.{same_param}
+use Rattle.jm_cmds.specs.Param.{same_param}
 use Rattle.ch_param.specs.Event.{Place, placed, selection_step, packet_at, event_at, param_event_ends, half_event_ends, param_ends, half_ends}
 use Rattle.ch_param.specs.ChapterM.{entered, entered_at}
 use Rattle.ch_param.specs.HalfLaws.{same_param-equal}

@@ -1,5 +1,3 @@
-pub mod Param
-pub mod Selection
 pub mod Event
 pub mod ChapterM
 pub mod Fresh

@@ -13,14 +13,14 @@ use Rattle.jm_cmds.specs.ControlLaws.{control_number-control_kind}
 use Rattle.jm_cmds.specs.History.{coded, below}
 use Rattle.jm_cmds.specs.HistoryLaws.{coded-push, coded-later, scanned-push}
 use Rattle.jm_cmds.specs.Sent.{packet_of}
-use Rattle.ch_param.specs.declared.param.Param.{Param}
-use Rattle.ch_param.specs.declared.selection.ParamCommand.{ParamCommand}
-use Rattle.ch_param.specs.declared.selection.ParamCommand.TheVariants.{Enter, Clear, Pass}
-use Rattle.ch_param.specs.declared.selection.Selection.{Selection}
+use Rattle.jm_cmds.specs.declared.param.Param.{Param}
+use Rattle.jm_cmds.specs.declared.selection.ParamCommand.{ParamCommand}
+use Rattle.jm_cmds.specs.declared.selection.ParamCommand.TheVariants.{Enter, Clear, Pass}
+use Rattle.jm_cmds.specs.declared.selection.Selection.{Selection}
 use Rattle.ch_param.specs.declared.events.ParamEvent.{ParamEvent}
 use Rattle.ch_param.specs.declared.events.ParamEvent.TheVariants.{Entry, Cleared, Other}
-use Rattle.ch_param.specs.Param.{same_param}
-use Rattle.ch_param.specs.Selection.{no_selection, param_command, control_command, selected_param, is_data_entry}
+use Rattle.jm_cmds.specs.Param.{same_param}
+use Rattle.jm_cmds.specs.Selection.{no_selection, param_command, control_command, selected_param, is_data_entry}
 use Rattle.ch_param.specs.Event.{Place, selection_step, packet_at, event_at, param_event, param_event_ends, param_ends}
 use Rattle.ch_param.specs.ChapterM.{Entered, entered, entered_at, entered_by, event_param, session_places, param_logs, fresh_among, chapter_of, chapter_m, param_count, has_param, param_parts, selected}
 use Rattle.ch_param.specs.HalfLaws.{same_param-equal}

@@ -3,7 +3,7 @@ use Rattle.std.proofs.Common.{◌≡◌, ℕ, ◌*◌, ◌≤◌, true, false, L
 use Rattle.std.specs.Prelude.{option_to_list}
 use Rattle.std.specs.List.{flat_map}
 use Rattle.jm_cmds.specs.Sent.{s_bit}
-use Rattle.ch_param.specs.declared.param.Param.{Param}
+use Rattle.jm_cmds.specs.declared.param.Param.{Param}
 use Rattle.ch_param.specs.Event.{Place}
 use Rattle.ch_param.specs.ChapterM.{Entered, coded_half, entered_log, param_log}
 

@@ -3,8 +3,8 @@ use Rattle.std.proofs.Common.{◌≡◌, ℕ, ◌<◌, Bool, true, false, cond, 
 use Rattle.std.specs.List.{list_any, cons_option}
 use Rattle.jm_cmds.specs.declared.history.Sent.{Sent}
 use Rattle.jm_cmds.specs.HistoryLaws.{filter_map-coded}
-use Rattle.ch_param.specs.declared.param.Param.{Param}
-use Rattle.ch_param.specs.declared.selection.Selection.{Selection}
+use Rattle.jm_cmds.specs.declared.param.Param.{Param}
+use Rattle.jm_cmds.specs.declared.selection.Selection.{Selection}
 use Rattle.ch_param.specs.declared.events.ParamEvent.{ParamEvent}
 use Rattle.ch_param.specs.declared.events.ParamEvent.TheVariants.{Entry, Cleared, Other}
 use Rattle.ch_param.specs.Event.{Place, selection_step, placed, packet_at, event_at, takes_param, param_event_ends, param_ends}

@@ -3,9 +3,7 @@
 ghost use Rattle.std.specs.Prelude.{◌≡◌};
 ghost use Rattle.ch_param.specs.Event.{param_event, takes_param};
 
-use crate::param::Param;
-use crate::selection::{ParamCommand, Selection};
-use jm_cmds::D7;
+use jm_cmds::{D7, Param, ParamCommand, Selection};
 
 /// What a place of the history means for the parameters of one channel.
 #[derive(Clone, Copy, PartialEq, Eq, Debug)]

@@ -6,10 +6,8 @@ ghost use Rattle.ch_param.specs.ChapterM.{coded_half, session_places};
 ghost use Rattle.ch_param.specs.HalfLaws.{half_step};
 
 use crate::events::ParamEvent;
-use crate::param::Param;
-use crate::selection::Selection;
 use crate::walk::{event_at, selection_behind};
-use jm_cmds::{Channel, D7, Sent, first_place};
+use jm_cmds::{Channel, D7, Param, Selection, Sent, first_place};
 
 /// What is coded of a half of this parameter behind a place with this event, if `half` is coded before it.
 fn half_behind(

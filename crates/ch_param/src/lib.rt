@@ -9,13 +9,9 @@ mod halves;
 pub mod laws;
 mod logs;
 pub mod m;
-mod param;
-mod selection;
 mod walk;
 
 pub use events::ParamEvent;
-pub use param::Param;
-pub use selection::{ParamCommand, Selection, param_command};
 
 #[cfg(test)]
 mod tests;

@@ -3,14 +3,12 @@
 ghost use Rattle.std.specs.Prelude.{ℕ, ◌≡◌, ◌+◌, ◌*◌, ◌<◌, ◌≤◌, true, false, length, option_to_list};
 ghost use Rattle.std.specs.List.{list_any};
 ghost use Rattle.jm_wire.specs.Octets.{Appends};
-ghost use Rattle.ch_param.specs.Param.{same_param};
+ghost use Rattle.jm_cmds.specs.Param.{same_param};
 ghost use Rattle.ch_param.specs.ChapterM.{Entered, coded_half, entered, entered_log, fresh_among, half_flag, param_log, param_logs, session_places};
 
 use crate::halves::coded_half;
-use crate::param::Param;
-use crate::selection::Selection;
 use crate::walk::next_entered;
-use jm_cmds::{Channel, D7, Sent};
+use jm_cmds::{Channel, D7, Param, Selection, Sent};
 use jm_wire::Octets;
 
 /// A parameter with its coded halves.

@@ -8,9 +8,8 @@ ghost use Rattle.jm_cmds.specs.Sent.{packet_of};
 ghost use Rattle.ch_param.specs.ChapterM.{chapter_m, fresh_m, param_count, has_param, selected, param_head};
 
 use crate::logs::{count, has, is_fresh, logs_len, write_logs};
-use crate::param::Param;
 use crate::walk::selection_of;
-use jm_cmds::{Channel, D7, Sent, session_history};
+use jm_cmds::{Channel, D7, Param, Sent, session_history};
 use jm_wire::{Octets, ParamHead};
 
 /// Appends the chapter's header, where its logs have this many octets.

@@ -2,15 +2,13 @@
 
 ghost use Rattle.std.specs.Prelude.{◌≡◌, ◌<◌, [], ◌∷◌, MatchOption, length, fold};
 ghost use Rattle.std.specs.List.{list_any};
-ghost use Rattle.ch_param.specs.Selection.{no_selection};
+ghost use Rattle.jm_cmds.specs.Selection.{no_selection};
 ghost use Rattle.ch_param.specs.Event.{selection_step, placed, event_at, takes_param};
 ghost use Rattle.ch_param.specs.ChapterM.{entered};
 ghost use Rattle.ch_param.specs.WalkLaws.{coded_param, IsNext};
 
 use crate::events::ParamEvent;
-use crate::param::Param;
-use crate::selection::{Selection, param_command};
-use jm_cmds::{Channel, Sent, first_place};
+use jm_cmds::{Channel, Param, Selection, Sent, first_place, param_command};
 
 /// The selection behind this place.
 pub(crate) fn selection_behind(selection: &Selection, place: &Sent, channel: Channel) -> Selection

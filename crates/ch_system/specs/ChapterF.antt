@@ -9,12 +9,12 @@ use Rattle.jm_cmds.specs.declared.history.Sent.{Sent}
 use Rattle.jm_cmds.specs.History.{below}
 use Rattle.jm_cmds.specs.Sent.{packet_of, is_fresh}
 use Rattle.ch_system.specs.declared.items.SystemItem.TheVariants.{Frames}
-use Rattle.ch_system.specs.declared.frames.TimeCode.{TimeCode}
+use Rattle.jm_cmds.specs.declared.frames.TimePart.{TimePart}
 use Rattle.ch_system.specs.Items.{item_coded, item_fresh}
-use Rattle.ch_system.specs.Frames.{time_code_after}
+use Rattle.jm_cmds.specs.Frames.{time_code_after}
 
 -- The header: C and P say which words follow. Q, that COMPLETE is of quarter frames, is as C.
-abbrev pub code_head : (fresh : Bool) → TimeCode → TimeHead
+abbrev pub code_head : (fresh : Bool) → TimePart → TimeHead
 code_head fresh code = record {
   s = not fresh;
   c = is_some code.complete;
@@ -29,10 +29,10 @@ word_octets None = []
 word_octets (Some word) = be32 word
 
 -- S C P Q D POINT, COMPLETE and PARTIAL
-abbrev pub code_octets : (fresh : Bool) → TimeCode → List ℕ
+abbrev pub code_octets : (fresh : Bool) → TimePart → List ℕ
 code_octets fresh code = time_octets (code_head fresh code) ++ word_octets code.complete ++ word_octets code.partial
 
-abbrev pub time_octets_of : (fresh : Bool) → Option TimeCode → List ℕ
+abbrev pub time_octets_of : (fresh : Bool) → Option TimePart → List ℕ
 time_octets_of fresh None = []
 time_octets_of fresh (Some code) = code_octets fresh code
 

@@ -8,12 +8,12 @@ use Rattle.jm_cmds.specs.declared.history.Sent.{Sent}
 use Rattle.jm_cmds.specs.History.{below}
 use Rattle.jm_cmds.specs.Sent.{packet_of, is_fresh}
 use Rattle.ch_system.specs.declared.items.SystemItem.TheVariants.{Sequence}
-use Rattle.ch_system.specs.declared.sequencing.Sequencer.{Sequencer}
+use Rattle.jm_cmds.specs.declared.sequencing.SequencerPart.{SequencerPart}
 use Rattle.ch_system.specs.Items.{item_coded, item_fresh}
-use Rattle.ch_system.specs.Sequencing.{sequencer_after}
+use Rattle.jm_cmds.specs.Sequencing.{sequencer_after}
 
 -- the header: C says whether a position other than 0 follows, TOP has its high three bits
-abbrev pub sequencer_head : (fresh moved : Bool) → Sequencer → SeqHead
+abbrev pub sequencer_head : (fresh moved : Bool) → SequencerPart → SeqHead
 sequencer_head fresh moved state = record {
   s = not fresh;
   n = state.running;
@@ -24,12 +24,12 @@ sequencer_head fresh moved state = record {
 }
 
 -- S N D C 0 TOP, and CLOCK where the position isn't 0
-abbrev pub sequencer_octets : (fresh : Bool) → Sequencer → List ℕ
+abbrev pub sequencer_octets : (fresh : Bool) → SequencerPart → List ℕ
 sequencer_octets fresh state =
     if state.position == 0 then seq_octets (sequencer_head fresh false state)
     else seq_octets (sequencer_head fresh true state) ++ be16 (state.position % 65536)
 
-abbrev pub position_octets : (fresh : Bool) → Option Sequencer → List ℕ
+abbrev pub position_octets : (fresh : Bool) → Option SequencerPart → List ℕ
 position_octets fresh None = []
 position_octets fresh (Some state) = sequencer_octets fresh state
 

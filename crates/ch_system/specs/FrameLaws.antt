@@ -11,11 +11,11 @@ use Rattle.jm_cmds.specs.History.{below}
 use Rattle.jm_cmds.specs.HistoryLaws.{AllByRecursion-filter}
 use Rattle.jm_cmds.specs.Sent.{packet_of}
 use Rattle.ch_system.specs.declared.items.SystemItem.TheVariants.{Frames}
-use Rattle.ch_system.specs.declared.frames.TimeCode.{TimeCode}
-use Rattle.ch_system.specs.declared.frames.FrameEvent.{FrameEvent}
-use Rattle.ch_system.specs.declared.frames.FrameEvent.TheVariants.{Framed, Cleared, Other}
+use Rattle.jm_cmds.specs.declared.frames.TimePart.{TimePart}
+use Rattle.jm_cmds.specs.declared.frames.FrameEvent.{FrameEvent}
+use Rattle.jm_cmds.specs.declared.frames.FrameEvent.TheVariants.{Framed, Cleared, Other}
 use Rattle.ch_system.specs.Items.{is_frame, item_coded}
-use Rattle.ch_system.specs.Frames.{frame_event, IsFrameEvent, time_code_from, restarted, advanced, is_next, framed_on, time_code_step, time_code_along, time_code_after, IsTimeCode}
+use Rattle.jm_cmds.specs.Frames.{frame_event, IsFrameEvent, time_code_from, restarted, advanced, is_next, framed_on, time_code_step, time_code_along, time_code_after, IsTimeCode}
 use Rattle.ch_system.specs.StateLaws.{Lasts, coded_there}
 use Rattle.ch_system.specs.Fresh.{AreCommands}
 
@@ -29,7 +29,7 @@ IsFrameEvent-event : (command : Command) → IsCommand command → IsFrameEvent 
 IsFrameEvent-event (QuarterFrame value) h = h
 IsFrameEvent-event command h = within-cleared (is_reset command)
 
-restarted-bound : (kind nibble : ℕ) (code : TimeCode) → (restarted kind nibble code).point < 8
+restarted-bound : (kind nibble : ℕ) (code : TimePart) → (restarted kind nibble code).point < 8
 restarted-bound kind nibble code =
     elim (cases_Bool (eqb kind 0)) [
       | inl t ↦ rw t (omega arith)
@@ -39,11 +39,11 @@ restarted-bound kind nibble code =
       ]
     ]
 
-advanced-bound : (kind nibble word : ℕ) (code : TimeCode) → kind < 8 → (advanced kind nibble word code).point < 8
+advanced-bound : (kind nibble word : ℕ) (code : TimePart) → kind < 8 → (advanced kind nibble word code).point < 8
 advanced-bound kind nibble word code h =
     elim (cases_Bool (eqb kind (cond code.backward 0 7))) [ inl t ↦ rw t h | inr f ↦ rw f h ]
 
-framed-bound : (kind nibble : ℕ) (code : TimeCode) (partial : Option ℕ) → kind < 8 → (framed_on kind nibble code partial).point < 8
+framed-bound : (kind nibble : ℕ) (code : TimePart) (partial : Option ℕ) → kind < 8 → (framed_on kind nibble code partial).point < 8
 framed-bound kind nibble code None h = restarted-bound kind nibble code
 framed-bound kind nibble code (Some word) h =
     elim (cases_Bool (is_next kind code)) [
@@ -51,14 +51,14 @@ framed-bound kind nibble code (Some word) h =
       | inr f ↦ rw f (restarted-bound kind nibble code)
     ]
 
-IsTimeCode-step : (state : Option TimeCode) (event : FrameEvent) → IsTimeCode state → IsFrameEvent event → IsTimeCode (time_code_step state event)
+IsTimeCode-step : (state : Option TimePart) (event : FrameEvent) → IsTimeCode state → IsFrameEvent event → IsTimeCode (time_code_step state event)
 IsTimeCode-step state (Framed value) h e =
     let code = time_code_from state in
     framed-bound (value / 16) (value % 16) code code.partial (omega (arith, e))
 IsTimeCode-step state Cleared h e = tt
 IsTimeCode-step state Other h e = h
 
-IsTimeCode-fold : (state : Option TimeCode) (sent : List Sent) → IsTimeCode state → AreCommands sent → IsTimeCode (fold time_code_along state sent)
+IsTimeCode-fold : (state : Option TimePart) (sent : List Sent) → IsTimeCode state → AreCommands sent → IsTimeCode (fold time_code_along state sent)
 IsTimeCode-fold state [] h a = h
 IsTimeCode-fold state (x ∷ xs) h a =
     IsTimeCode-fold (time_code_along state x) xs
@@ -72,15 +72,15 @@ IsTimeCode-after packet sent a =
 
 -- ## It is there where the item is coded
 
-made : (state : Option TimeCode) (command : Command) → is_frame command ≡ true → is_some (time_code_step state (frame_event command)) ≡ true
+made : (state : Option TimePart) (command : Command) → is_frame command ≡ true → is_some (time_code_step state (frame_event command)) ≡ true
 made state (QuarterFrame value) e = refl
 made state command e = absurd cc
 
-kept-by : (b : Bool) (state : Option TimeCode) → b ≡ false → is_some state ≡ true → is_some (time_code_step state (cond b Cleared Other)) ≡ true
+kept-by : (b : Bool) (state : Option TimePart) → b ≡ false → is_some state ≡ true → is_some (time_code_step state (cond b Cleared Other)) ≡ true
 kept-by true state b s = absurd cc
 kept-by false state b s = s
 
-kept : (state : Option TimeCode) (command : Command) → is_reset command ≡ false → is_some state ≡ true → is_some (time_code_step state (frame_event command)) ≡ true
+kept : (state : Option TimePart) (command : Command) → is_reset command ≡ false → is_some state ≡ true → is_some (time_code_step state (frame_event command)) ≡ true
 kept state (QuarterFrame value) r s = refl
 kept state command r s = kept-by (is_reset command) state r s
 

@@ -10,13 +10,13 @@ use Rattle.jm_cmds.specs.declared.history.Sent.{Sent}
 use Rattle.jm_cmds.specs.History.{below}
 use Rattle.jm_cmds.specs.Sent.{packet_of, is_fresh, s_of, s_bit, shows_fresh}
 use Rattle.ch_system.specs.declared.items.SystemItem.TheVariants.{Reset, Tune, Song, Sensing, Sequence, Frames}
-use Rattle.ch_system.specs.declared.sequencing.Sequencer.{Sequencer}
-use Rattle.ch_system.specs.declared.frames.TimeCode.{TimeCode}
+use Rattle.jm_cmds.specs.declared.sequencing.SequencerPart.{SequencerPart}
+use Rattle.jm_cmds.specs.declared.frames.TimePart.{TimePart}
 use Rattle.ch_system.specs.Items.{item_coded, item_count, item_fresh}
 use Rattle.ch_system.specs.ItemLaws.{none, one, one-coded}
-use Rattle.ch_system.specs.Sequencing.{sequencer_after}
+use Rattle.jm_cmds.specs.Sequencing.{sequencer_after}
 use Rattle.ch_system.specs.SequencingLaws.{IsSequencer-after, position_there}
-use Rattle.ch_system.specs.Frames.{time_code_after}
+use Rattle.jm_cmds.specs.Frames.{time_code_after}
 use Rattle.ch_system.specs.FrameLaws.{IsTimeCode-after, time_code_there}
 use Rattle.ch_system.specs.StateLaws.{value_of}
 use Rattle.ch_system.specs.ChapterD.{chapter_d, fresh_d, d_head, headed, any_bit, count_logs, song_logs, song_of}
@@ -69,7 +69,7 @@ twice : (b : Bool) → not (not b) ≡ b
 twice true = refl
 twice false = refl
 
-position-shows : (fresh : Bool) (s : Sequencer) → s.position < 524288 → shows_fresh (sequencer_octets fresh s ++ []) ≡ fresh
+position-shows : (fresh : Bool) (s : SequencerPart) → s.position < 524288 → shows_fresh (sequencer_octets fresh s ++ []) ≡ fresh
 position-shows fresh s h =
     elim (cases_Bool (eqb s.position 0)) [
       | inl z ↦ rw z (seq-shows (sequencer_head fresh false s) [] (omega arith) ∙ twice fresh)
@@ -100,7 +100,7 @@ time-shows head more h =
       | inr s ↦ rw s (lt-ltb (128 * 0 + 64 * bit head.c + 32 * bit head.p + 16 * bit head.q + 8 * bit head.d + head.point) 128 (omega (arith, h, c, p, q, d)))
     ]
 
-code-shows : (fresh : Bool) (code : TimeCode) → code.point < 8 → shows_fresh (code_octets fresh code ++ []) ≡ fresh
+code-shows : (fresh : Bool) (code : TimePart) → code.point < 8 → shows_fresh (code_octets fresh code ++ []) ≡ fresh
 code-shows fresh code h =
     time-shows (code_head fresh code) ((word_octets code.complete ++ word_octets code.partial) ++ []) h ∙ twice fresh
 

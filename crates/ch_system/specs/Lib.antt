@@ -3,9 +3,7 @@ pub mod ItemLaws
 pub mod ChapterD
 pub mod Logs
 pub mod ChapterV
-pub mod Sequencing
 pub mod ChapterQ
-pub mod Frames
 pub mod ChapterF
 pub mod Fresh
 pub mod StateLaws

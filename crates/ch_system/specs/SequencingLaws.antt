@@ -11,11 +11,11 @@ use Rattle.jm_cmds.specs.History.{below}
 use Rattle.jm_cmds.specs.HistoryLaws.{AllByRecursion-filter}
 use Rattle.jm_cmds.specs.Sent.{packet_of}
 use Rattle.ch_system.specs.declared.items.SystemItem.TheVariants.{Sequence}
-use Rattle.ch_system.specs.declared.sequencing.Sequencer.{Sequencer}
-use Rattle.ch_system.specs.declared.sequencing.SequencerEvent.{SequencerEvent}
-use Rattle.ch_system.specs.declared.sequencing.SequencerEvent.TheVariants.{Clocked, Started, Continued, Stopped, Located, Cleared, Other}
+use Rattle.jm_cmds.specs.declared.sequencing.SequencerPart.{SequencerPart}
+use Rattle.jm_cmds.specs.declared.sequencing.SequencerEvent.{SequencerEvent}
+use Rattle.jm_cmds.specs.declared.sequencing.SequencerEvent.TheVariants.{Clocked, Started, Continued, Stopped, Located, Cleared, Other}
 use Rattle.ch_system.specs.Items.{is_sequence, item_coded}
-use Rattle.ch_system.specs.Sequencing.{sequencer_event, IsSequencerEvent, sequencer_from, clocked, sequencer_step, sequencer_along, sequencer_after, IsSequencer}
+use Rattle.jm_cmds.specs.Sequencing.{sequencer_event, IsSequencerEvent, sequencer_from, clocked, sequencer_step, sequencer_along, sequencer_after, IsSequencer}
 use Rattle.ch_system.specs.StateLaws.{Lasts, coded_there}
 use Rattle.ch_system.specs.Fresh.{AreCommands}
 
@@ -33,18 +33,18 @@ IsSequencerEvent-event Stop h = tt
 IsSequencerEvent-event (SongPosition value) h = h
 IsSequencerEvent-event command h = within-cleared (is_reset command)
 
-from-bound : (state : Option Sequencer) → IsSequencer state → (sequencer_from state).position < 524288
+from-bound : (state : Option SequencerPart) → IsSequencer state → (sequencer_from state).position < 524288
 from-bound None h = omega arith
 from-bound (Some s) h = h
 
-clocked-bound : (s : Sequencer) → s.position < 524288 → (clocked s).position < 524288
+clocked-bound : (s : SequencerPart) → s.position < 524288 → (clocked s).position < 524288
 clocked-bound s h =
     elim (cases_Bool s.running) [
       | inl t ↦ elim (cases_Bool s.downbeat) [ inl d ↦ rw (t, d) (omega arith) | inr n ↦ rw (t, n) h ]
       | inr f ↦ rw f h
     ]
 
-IsSequencer-step : (state : Option Sequencer) (event : SequencerEvent) → IsSequencer state → IsSequencerEvent event → IsSequencer (sequencer_step state event)
+IsSequencer-step : (state : Option SequencerPart) (event : SequencerEvent) → IsSequencer state → IsSequencerEvent event → IsSequencer (sequencer_step state event)
 IsSequencer-step state Clocked h e = clocked-bound (sequencer_from state) (from-bound state h)
 IsSequencer-step state Started h e = omega arith
 IsSequencer-step state Continued h e = from-bound state h
@@ -53,7 +53,7 @@ IsSequencer-step state (Located value) h e = omega (arith, e)
 IsSequencer-step state Cleared h e = tt
 IsSequencer-step state Other h e = h
 
-IsSequencer-fold : (state : Option Sequencer) (sent : List Sent) → IsSequencer state → AreCommands sent → IsSequencer (fold sequencer_along state sent)
+IsSequencer-fold : (state : Option SequencerPart) (sent : List Sent) → IsSequencer state → AreCommands sent → IsSequencer (fold sequencer_along state sent)
 IsSequencer-fold state [] h a = h
 IsSequencer-fold state (x ∷ xs) h a =
     IsSequencer-fold (sequencer_along state x) xs
@@ -67,7 +67,7 @@ IsSequencer-after packet sent a =
 
 -- ## It is there where the item is coded
 
-made : (state : Option Sequencer) (command : Command) → is_sequence command ≡ true → is_some (sequencer_step state (sequencer_event command)) ≡ true
+made : (state : Option SequencerPart) (command : Command) → is_sequence command ≡ true → is_some (sequencer_step state (sequencer_event command)) ≡ true
 made state Clock e = refl
 made state Start e = refl
 made state Continue e = refl
@@ -75,11 +75,11 @@ made state Stop e = refl
 made state (SongPosition value) e = refl
 made state command e = absurd cc
 
-kept-by : (b : Bool) (state : Option Sequencer) → b ≡ false → is_some state ≡ true → is_some (sequencer_step state (cond b Cleared Other)) ≡ true
+kept-by : (b : Bool) (state : Option SequencerPart) → b ≡ false → is_some state ≡ true → is_some (sequencer_step state (cond b Cleared Other)) ≡ true
 kept-by true state b s = absurd cc
 kept-by false state b s = s
 
-kept : (state : Option Sequencer) (command : Command) → is_reset command ≡ false → is_some state ≡ true → is_some (sequencer_step state (sequencer_event command)) ≡ true
+kept : (state : Option SequencerPart) (command : Command) → is_reset command ≡ false → is_some state ≡ true → is_some (sequencer_step state (sequencer_event command)) ≡ true
 kept state Clock r s = refl
 kept state Start r s = refl
 kept state Continue r s = refl

@@ -6,9 +6,8 @@ ghost use Rattle.jm_cmds.specs.History.{InOrder};
 ghost use Rattle.jm_cmds.specs.Sent.{packet_of};
 ghost use Rattle.ch_system.specs.ChapterF.{chapter_f, fresh_f, code_octets, word_octets};
 
-use crate::frames::{TimeCode, time_code_after};
 use crate::items::{SystemItem, coded_place, item_fresh};
-use jm_cmds::{Sent, session_history};
+use jm_cmds::{Sent, TimePart, session_history, time_code_after};
 use jm_wire::{Octets, TimeHead};
 
 /// The number of a word's octets, if it is there.
@@ -33,7 +32,7 @@ fn write_word(word: Option<u32>, out: &mut Octets)
 }
 
 /// Appends the chapter of this time code.
-fn write_code(fresh: bool, code: &TimeCode, out: &mut Octets)
+fn write_code(fresh: bool, code: &TimePart, out: &mut Octets)
     requires bound { code.now.point < 8 }
     requires spare { length (code_octets fresh code.now) ≤ out.old.spare }
     ensures { Appends out.old out.new (code_octets fresh code.now) }

@@ -7,16 +7,12 @@
 
 pub mod d;
 pub mod f;
-mod frames;
 mod items;
 pub mod laws;
 pub mod q;
-mod sequencing;
 pub mod v;
 
-pub use frames::{FrameEvent, TimeCode, frame_event, time_code_after};
 pub use items::SystemItem;
-pub use sequencing::{Sequencer, SequencerEvent, sequencer_after, sequencer_event};
 
 #[cfg(test)]
 mod tests;

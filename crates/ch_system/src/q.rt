@@ -7,12 +7,11 @@ ghost use Rattle.jm_cmds.specs.Sent.{packet_of};
 ghost use Rattle.ch_system.specs.ChapterQ.{chapter_q, fresh_q, sequencer_octets};
 
 use crate::items::{SystemItem, coded_place, item_fresh};
-use crate::sequencing::{Sequencer, sequencer_after};
-use jm_cmds::{Sent, session_history};
+use jm_cmds::{Sent, SequencerPart, sequencer_after, session_history};
 use jm_wire::{Octets, SeqHead};
 
 /// Appends the chapter of this song position.
-fn write_position(fresh: bool, state: &Sequencer, out: &mut Octets)
+fn write_position(fresh: bool, state: &SequencerPart, out: &mut Octets)
     requires bound { state.now.position < 524288 }
     requires spare { length (sequencer_octets fresh state.now) ≤ out.old.spare }
     ensures { Appends out.old out.new (sequencer_octets fresh state.now) }

@@ -11,5 +11,9 @@ pub mod History
 pub mod HistoryLaws
 pub mod Keys
 pub mod Sent
+pub mod Sequencing
+pub mod Frames
+pub mod Param
+pub mod Selection
 pub mod CommandLaws
 pub mod Laws

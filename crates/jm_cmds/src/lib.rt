@@ -8,21 +8,31 @@
 
 mod commands;
 mod controls;
+mod frames;
 mod history;
 pub mod laws;
 mod numbers;
 mod outcome;
+mod param;
 mod reading;
+mod selection;
+mod sequencing;
 mod system_exclusive;
 
 pub use commands::{Command, Spelled};
 pub use controls::ControlKind;
+pub use frames::{FrameEvent, TimePart, frame_event, time_code_after, time_code_step};
 pub use history::{
     Sent, checkpoint_history, first_place, in_order, place_of, s_of, session_history,
 };
 pub use numbers::{Channel, D7, D14};
 pub use outcome::ReadError;
+pub use param::Param;
 pub use reading::{CmdFault, read_command};
+pub use selection::{ParamCommand, Selection, param_command};
+pub use sequencing::{
+    SequencerEvent, SequencerPart, sequencer_after, sequencer_event, sequencer_step,
+};
 pub use system_exclusive::{Sysex, SysexFault, data_len};
 
 #[cfg(test)]

@@ -7,7 +7,7 @@ use Rattle.jm_cmds.specs.declared.commands.Command.{Command}
 use Rattle.jm_cmds.specs.declared.commands.Command.TheVariants.{Control, PolyPressure, Sysex, SystemReset}
 use Rattle.jm_cmds.specs.declared.history.Sent.{Sent}
 use Rattle.jm_cmds.specs.Control.{is_reset, is_reset_message, ends_controllers}
-use Rattle.ch_param.specs.Selection.{is_data_entry}
+use Rattle.jm_cmds.specs.Selection.{is_data_entry}
 use Rattle.ch_param.specs.ChapterM.{param_count, has_param, selected}
 use Rattle.ch_param.specs.Limits.{param_count-push, param_count-other, param_count-unselected, param_count-met, param_count-later, param_count-none}
 use Rattle.ch_notes.specs.ChapterA.{poly_count, has_poly}

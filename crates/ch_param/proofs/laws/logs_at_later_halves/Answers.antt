@@ -1,4 +1,4 @@
-use Rattle.ch_param.specs.Selection.{no_selection}
+use Rattle.jm_cmds.specs.Selection.{no_selection}
 use Rattle.ch_param.specs.ChapterM.{session_places}
 use Rattle.ch_param.specs.LaterLaws.{InOrder-placed, entered-halves}
 use Rattle.ch_param.proofs.laws.logs_at_later_halves.Goals as goal

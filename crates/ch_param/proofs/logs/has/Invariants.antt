@@ -1,6 +1,6 @@
 use Rattle.std.proofs.Common.{◌≡◌, length}
 use Rattle.std.specs.List.{list_any}
-use Rattle.ch_param.specs.Param.{same_param}
+use Rattle.jm_cmds.specs.Param.{same_param}
 use Rattle.ch_param.specs.Event.{placed}
 use Rattle.ch_param.specs.ChapterM.{Entered, entered, session_places}
 use Rattle.ch_param.proofs.logs.has.Given as goal

@@ -1,5 +1,5 @@
 use Rattle.std.proofs.Common.{◌≡◌, fold, drop}
-use Rattle.ch_param.specs.Selection.{no_selection}
+use Rattle.jm_cmds.specs.Selection.{no_selection}
 use Rattle.ch_param.specs.Event.{selection_step}
 use Rattle.ch_param.proofs.walk.selection_of.Given as goal
 

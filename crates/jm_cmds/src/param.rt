@@ -1,9 +1,9 @@
 //! Parameters.
 
 ghost use Rattle.std.specs.Prelude.{◌≡◌};
-ghost use Rattle.ch_param.specs.Param.{param_of, same_param};
+ghost use Rattle.jm_cmds.specs.Param.{param_of, same_param};
 
-use jm_cmds::D7;
+use crate::numbers::D7;
 
 /// A parameter: whether it is a non-registered one (NRPN), and the high and the low seven bits of its number.
 #[derive(Clone, Copy, PartialEq, Eq, Debug)]

@@ -1,7 +1,7 @@
 -- Parameters by their kind and number (RFC 6295, A.1).
 use Rattle.std.specs.Prelude.{ℕ, Bool, ◌&&◌, Option, Some, None, ◌==◌, if◌then◌else◌}
 use Rattle.std.proofs.Math.Bool.{beq}
-use Rattle.ch_param.specs.declared.param.Param.{Param}
+use Rattle.jm_cmds.specs.declared.param.Param.{Param}
 
 -- The parameter with these halves of its number, both of which are needed. Both being 127 stands for none.
 abbrev pub param_of : Bool → Option ℕ → Option ℕ → Option Param

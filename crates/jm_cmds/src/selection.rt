@@ -1,10 +1,12 @@
 //! The parameter that is selected in a channel.
 
 ghost use Rattle.std.specs.Prelude.{◌≡◌};
-ghost use Rattle.ch_param.specs.Selection.{param_command, selection_with, selection_after, no_selection, selected_param};
+ghost use Rattle.jm_cmds.specs.Selection.{param_command, selection_with, selection_after, no_selection, selected_param};
 
+use crate::commands::Command;
+use crate::controls::ControlKind;
+use crate::numbers::{Channel, D7};
 use crate::param::Param;
-use jm_cmds::{Channel, Command, ControlKind, D7};
 
 /// What a command means for the parameters of one channel.
 #[derive(Clone, Copy, PartialEq, Eq, Debug)]

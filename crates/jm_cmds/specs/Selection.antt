@@ -5,11 +5,11 @@ use Rattle.jm_cmds.specs.declared.commands.Command.TheVariants.{Control}
 use Rattle.jm_cmds.specs.declared.controls.ControlKind.{ControlKind}
 use Rattle.jm_cmds.specs.declared.controls.ControlKind.TheVariants.{DataEntry, Selection, ResetControllers}
 use Rattle.jm_cmds.specs.Control.{control_kind, is_reset}
-use Rattle.ch_param.specs.declared.param.Param.{Param}
-use Rattle.ch_param.specs.declared.selection.ParamCommand.{ParamCommand}
-use Rattle.ch_param.specs.declared.selection.ParamCommand.TheVariants.{Select, Enter, Unselect, Clear, Pass}
-use Rattle.ch_param.specs.declared.selection.Selection.{Selection as Halves}
-use Rattle.ch_param.specs.Param.{param_of}
+use Rattle.jm_cmds.specs.declared.param.Param.{Param}
+use Rattle.jm_cmds.specs.declared.selection.ParamCommand.{ParamCommand}
+use Rattle.jm_cmds.specs.declared.selection.ParamCommand.TheVariants.{Select, Enter, Unselect, Clear, Pass}
+use Rattle.jm_cmds.specs.declared.selection.Selection.{Selection as Halves}
+use Rattle.jm_cmds.specs.Param.{param_of}
 
 -- what a controller of this kind means for parameters
 abbrev pub control_command : ControlKind → ℕ → ParamCommand

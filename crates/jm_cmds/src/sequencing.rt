@@ -1,9 +1,11 @@
 //! The song position, as the commands of a session move it (RFC 6295, B.3).
 
 ghost use Rattle.std.specs.Prelude.{◌≡◌, ◌<◌, None};
-ghost use Rattle.ch_system.specs.Sequencing.{sequencer_event, IsSequencerEvent, IsSequencer, sequencer_from, clocked, turned, sequencer_step, sequencer_after};
+ghost use Rattle.jm_cmds.specs.Sequencing.{sequencer_event, IsSequencerEvent, IsSequencer, sequencer_from, clocked, turned, sequencer_step, sequencer_after};
 
-use jm_cmds::{Command, D14, Sent, first_place};
+use crate::commands::Command;
+use crate::history::{Sent, first_place};
+use crate::numbers::D14;
 
 /// What a command means for the sequencer (RFC 6295, B.3).
 #[derive(Clone, Copy, PartialEq, Eq, Debug)]
@@ -26,7 +28,7 @@ pub enum SequencerEvent {
 
 /// Where a sequencer is in the song (RFC 6295, B.3).
 #[derive(Clone, Copy, PartialEq, Eq, Debug)]
-pub struct Sequencer {
+pub struct SequencerPart {
     /// It runs: the last of Start, Continue and Stop was one of the first two.
     pub running: bool,
     /// The position has been played: a clock came since it began to run.
@@ -58,12 +60,12 @@ pub fn sequencer_event(command: &Command) -> SequencerEvent
     }
 }
 
-impl Sequencer {
+impl SequencerPart {
     /// What the first command starts from.
-    fn first() -> Sequencer
+    fn first() -> SequencerPart
         ensures { result ≡ sequencer_from None }
     {
-        Sequencer {
+        SequencerPart {
             running: false,
             downbeat: false,
             position: 0,
@@ -71,7 +73,7 @@ impl Sequencer {
     }
 
     /// One clock more: the first since it began to run plays the position, each further one moves it.
-    fn clocked(self) -> Sequencer
+    fn clocked(self) -> SequencerPart
         requires { self.position < 524288 }
         ensures { result ≡ clocked self }
     {
@@ -79,13 +81,13 @@ impl Sequencer {
             return self;
         }
         if !self.downbeat {
-            return Sequencer {
+            return SequencerPart {
                 running: true,
                 downbeat: true,
                 position: self.position,
             };
         }
-        Sequencer {
+        SequencerPart {
             running: true,
             downbeat: true,
             position: (self.position + 1) % 524288,
@@ -93,10 +95,10 @@ impl Sequencer {
     }
 
     /// It begins to run, or ceases to.
-    fn turned(running: bool, position: u32) -> Sequencer
+    fn turned(running: bool, position: u32) -> SequencerPart
         ensures { result ≡ turned running position }
     {
-        Sequencer {
+        SequencerPart {
             running,
             downbeat: false,
             position,
@@ -105,22 +107,22 @@ impl Sequencer {
 }
 
 /// The state behind this event.
-fn sequencer_step(state: Option<Sequencer>, event: SequencerEvent) -> Option<Sequencer>
+pub fn sequencer_step(state: Option<SequencerPart>, event: SequencerEvent) -> Option<SequencerPart>
     requires state { IsSequencer state }
     requires event { IsSequencerEvent event }
     ensures state { result ≡ sequencer_step state event }
     ensures bound { IsSequencer result }
 {
     let from = match state {
-        None => Sequencer::first(),
+        None => SequencerPart::first(),
         Some(s) => s,
     };
     match event {
         SequencerEvent::Clocked => Some(from.clocked()),
-        SequencerEvent::Started => Some(Sequencer::turned(true, 0)),
-        SequencerEvent::Continued => Some(Sequencer::turned(true, from.position)),
-        SequencerEvent::Stopped => Some(Sequencer::turned(false, from.position)),
-        SequencerEvent::Located { value } => Some(Sequencer {
+        SequencerEvent::Started => Some(SequencerPart::turned(true, 0)),
+        SequencerEvent::Continued => Some(SequencerPart::turned(true, from.position)),
+        SequencerEvent::Stopped => Some(SequencerPart::turned(false, from.position)),
+        SequencerEvent::Located { value } => Some(SequencerPart {
             position: 6 * u32::from(value.get()),
             ..from
         }),
@@ -132,7 +134,7 @@ fn sequencer_step(state: Option<Sequencer>, event: SequencerEvent) -> Option<Seq
 /// The song position behind these commands: `None` where no Clock, Start, Continue, Stop or Song Position came since
 /// the last Reset State command.
 #[tactic(auto, unfolding(crate::specs::Sequencing::sequencer_after))]
-pub fn sequencer_after(session: &[Sent]) -> Option<Sequencer>
+pub fn sequencer_after(session: &[Sent]) -> Option<SequencerPart>
     ensures state { result ≡ sequencer_after session.now }
     ensures bound { IsSequencer result }
 {

@@ -1,9 +1,11 @@
 //! MIDI Time Code, as quarter frames spell it (RFC 6295, B.4).
 
 ghost use Rattle.std.specs.Prelude.{◌≡◌, ◌<◌, None};
-ghost use Rattle.ch_system.specs.Frames.{frame_event, IsFrameEvent, IsTimeCode, set_nibble, time_code_from, restarted, advanced, is_next, framed, time_code_step, time_code_after};
+ghost use Rattle.jm_cmds.specs.Frames.{frame_event, IsFrameEvent, IsTimeCode, set_nibble, time_code_from, restarted, advanced, is_next, framed, time_code_step, time_code_after};
 
-use jm_cmds::{Command, D7, Sent, first_place};
+use crate::commands::Command;
+use crate::history::{Sent, first_place};
+use crate::numbers::D7;
 
 /// What a command means for time code (RFC 6295, B.4).
 #[derive(Clone, Copy, PartialEq, Eq, Debug)]
@@ -18,7 +20,7 @@ pub enum FrameEvent {
 
 /// What quarter frames have spelled (RFC 6295, B.4). A word has eight nibbles: that of type 0 is the highest.
 #[derive(Clone, Copy, PartialEq, Eq, Debug)]
-pub struct TimeCode {
+pub struct TimePart {
     /// The last word of which all eight nibbles came in order.
     pub complete: Option<u32>,
     /// The word that is being spelled. Nibbles that are still to come are 0.
@@ -74,12 +76,12 @@ fn set_nibble(word: u32, kind: u8, nibble: u8) -> u32
     }
 }
 
-impl TimeCode {
+impl TimePart {
     /// What the first quarter frame starts from.
-    fn first() -> TimeCode
+    fn first() -> TimePart
         ensures { result ≡ time_code_from None }
     {
-        TimeCode {
+        TimePart {
             complete: None,
             partial: None,
             backward: false,
@@ -88,21 +90,21 @@ impl TimeCode {
     }
 
     /// A nibble that doesn't go on with the word: it begins one at either end, or belongs to none.
-    fn restarted(self, kind: u8, nibble: u8) -> TimeCode
+    fn restarted(self, kind: u8, nibble: u8) -> TimePart
         requires kind { kind < 8 }
         requires nibble { nibble < 16 }
         ensures code { result ≡ restarted kind nibble self }
         ensures bound { result.point < 8 }
     {
         if kind == 0 || kind == 7 {
-            return TimeCode {
+            return TimePart {
                 complete: self.complete,
                 partial: Some(set_nibble(0, kind, nibble)),
                 backward: kind == 7,
                 point: kind,
             };
         }
-        TimeCode {
+        TimePart {
             complete: self.complete,
             partial: None,
             backward: self.backward,
@@ -111,7 +113,7 @@ impl TimeCode {
     }
 
     /// The next nibble of this word, which is complete with the last type of its direction.
-    fn advanced(self, word: u32, kind: u8, nibble: u8) -> TimeCode
+    fn advanced(self, word: u32, kind: u8, nibble: u8) -> TimePart
         requires kind { kind < 8 }
         requires nibble { nibble < 16 }
         ensures code { result ≡ advanced kind nibble word self }
@@ -120,14 +122,14 @@ impl TimeCode {
         let next = set_nibble(word, kind, nibble);
         let last = if self.backward { 0 } else { 7 };
         if kind == last {
-            return TimeCode {
+            return TimePart {
                 complete: Some(next),
                 partial: None,
                 backward: self.backward,
                 point: kind,
             };
         }
-        TimeCode {
+        TimePart {
             complete: self.complete,
             partial: Some(next),
             backward: self.backward,
@@ -148,7 +150,7 @@ impl TimeCode {
     }
 
     /// One quarter frame more.
-    fn framed(self, kind: u8, nibble: u8) -> TimeCode
+    fn framed(self, kind: u8, nibble: u8) -> TimePart
         requires kind { kind < 8 }
         requires nibble { nibble < 16 }
         requires point { self.point < 8 }
@@ -165,7 +167,7 @@ impl TimeCode {
 }
 
 /// The state behind this event.
-fn time_code_step(state: Option<TimeCode>, event: FrameEvent) -> Option<TimeCode>
+pub fn time_code_step(state: Option<TimePart>, event: FrameEvent) -> Option<TimePart>
     requires state { IsTimeCode state }
     requires event { IsFrameEvent event }
     ensures state { result ≡ time_code_step state event }
@@ -174,7 +176,7 @@ fn time_code_step(state: Option<TimeCode>, event: FrameEvent) -> Option<TimeCode
     match event {
         FrameEvent::Framed { value } => {
             let from = match state {
-                None => TimeCode::first(),
+                None => TimePart::first(),
                 Some(s) => s,
             };
             Some(from.framed(value.get() / 16, value.get() % 16))
@@ -186,7 +188,7 @@ fn time_code_step(state: Option<TimeCode>, event: FrameEvent) -> Option<TimeCode
 
 /// The time code behind these commands: `None` where no quarter frame came since the last Reset State command.
 #[tactic(auto, unfolding(crate::specs::Frames::time_code_after))]
-pub fn time_code_after(session: &[Sent]) -> Option<TimeCode>
+pub fn time_code_after(session: &[Sent]) -> Option<TimePart>
     ensures state { result ≡ time_code_after session.now }
     ensures bound { IsTimeCode result }
 {

@@ -1,6 +1,6 @@
 use Rattle.std.proofs.Common.{◌≡◌, length, fold}
-use Rattle.ch_system.specs.Sequencing.{sequencer_along, sequencer_after, IsSequencer}
-use Rattle.ch_system.proofs.sequencing.sequencer_after.Given as goal
+use Rattle.jm_cmds.specs.Sequencing.{sequencer_along, sequencer_after, IsSequencer}
+use Rattle.jm_cmds.proofs.sequencing.sequencer_after.Given as goal
 
 abbrev pub invariant-loop-place : goal.invariant-loop-place
 invariant-loop-place l = (fold sequencer_along l.state l.rest ≡ sequencer_after l.session) × IsSequencer l.state

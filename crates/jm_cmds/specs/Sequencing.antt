@@ -4,9 +4,9 @@ use Rattle.jm_cmds.specs.declared.commands.Command.{Command}
 use Rattle.jm_cmds.specs.declared.commands.Command.TheVariants.{SongPosition, Clock, Start, Continue, Stop}
 use Rattle.jm_cmds.specs.declared.history.Sent.{Sent}
 use Rattle.jm_cmds.specs.Control.{is_reset}
-use Rattle.ch_system.specs.declared.sequencing.Sequencer.{Sequencer}
-use Rattle.ch_system.specs.declared.sequencing.SequencerEvent.{SequencerEvent}
-use Rattle.ch_system.specs.declared.sequencing.SequencerEvent.TheVariants.{Clocked, Started, Continued, Stopped, Located, Cleared, Other}
+use Rattle.jm_cmds.specs.declared.sequencing.SequencerPart.{SequencerPart}
+use Rattle.jm_cmds.specs.declared.sequencing.SequencerEvent.{SequencerEvent}
+use Rattle.jm_cmds.specs.declared.sequencing.SequencerEvent.TheVariants.{Clocked, Started, Continued, Stopped, Located, Cleared, Other}
 
 abbrev pub sequencer_event : Command → SequencerEvent
 sequencer_event Clock = Clocked
@@ -22,21 +22,21 @@ IsSequencerEvent (Located value) = value < 16384
 IsSequencerEvent _ = Unit {0}
 
 -- what the next command starts from: where no position is there, it stands at the beginning
-abbrev pub sequencer_from : Option Sequencer → Sequencer
+abbrev pub sequencer_from : Option SequencerPart → SequencerPart
 sequencer_from None = record { running = false; downbeat = false; position = 0 }
 sequencer_from (Some s) = s
 
 -- A clock while it runs: the first plays the position, each further one moves it. Else nothing.
-abbrev pub clocked : Sequencer → Sequencer
+abbrev pub clocked : SequencerPart → SequencerPart
 clocked s =
     if s.running then (if s.downbeat then record s { position = (s.position + 1) % 524288 } else record s { downbeat = true })
     else s
 
 -- it begins to run, or ceases to, and the position is still to be played
-abbrev pub turned : Bool → ℕ → Sequencer
+abbrev pub turned : Bool → ℕ → SequencerPart
 turned running position = record { running = running; downbeat = false; position = position }
 
-abbrev pub sequencer_step : Option Sequencer → SequencerEvent → Option Sequencer
+abbrev pub sequencer_step : Option SequencerPart → SequencerEvent → Option SequencerPart
 sequencer_step state Clocked = Some (clocked (sequencer_from state))
 sequencer_step state Started = Some (turned true 0)
 sequencer_step state Continued = Some (turned true (sequencer_from state).position)
@@ -45,14 +45,14 @@ sequencer_step state (Located value) = Some (record (sequencer_from state) { pos
 sequencer_step state Cleared = None
 sequencer_step state Other = state
 
-abbrev pub sequencer_along : Option Sequencer → Sent → Option Sequencer
+abbrev pub sequencer_along : Option SequencerPart → Sent → Option SequencerPart
 sequencer_along state place = sequencer_step state (sequencer_event place.command)
 
 -- The song position behind these commands: none where none of its commands came since the last Reset State command.
-unfoldable pub sequencer_after : List Sent → Option Sequencer
+unfoldable pub sequencer_after : List Sent → Option SequencerPart
 sequencer_after sent = fold sequencer_along None sent
 
 -- the position is one modulo 2^19
-abbrev pub IsSequencer : Option Sequencer → Type 0
+abbrev pub IsSequencer : Option SequencerPart → Type 0
 IsSequencer None = Unit {0}
 IsSequencer (Some s) = s.position < 524288

@@ -4,9 +4,9 @@ use Rattle.jm_cmds.specs.declared.commands.Command.{Command}
 use Rattle.jm_cmds.specs.declared.commands.Command.TheVariants.{QuarterFrame}
 use Rattle.jm_cmds.specs.declared.history.Sent.{Sent}
 use Rattle.jm_cmds.specs.Control.{is_reset}
-use Rattle.ch_system.specs.declared.frames.TimeCode.{TimeCode}
-use Rattle.ch_system.specs.declared.frames.FrameEvent.{FrameEvent}
-use Rattle.ch_system.specs.declared.frames.FrameEvent.TheVariants.{Framed, Cleared, Other}
+use Rattle.jm_cmds.specs.declared.frames.TimePart.{TimePart}
+use Rattle.jm_cmds.specs.declared.frames.FrameEvent.{FrameEvent}
+use Rattle.jm_cmds.specs.declared.frames.FrameEvent.TheVariants.{Framed, Cleared, Other}
 
 abbrev pub frame_event : Command → FrameEvent
 frame_event (QuarterFrame value) = Framed value
@@ -40,51 +40,51 @@ set_nibble word kind nibble = nibble_at word nibble (nibble_weight kind)
 -- ## Steps
 
 -- what the first quarter frame starts from
-abbrev pub time_code_from : Option TimeCode → TimeCode
+abbrev pub time_code_from : Option TimePart → TimePart
 time_code_from None = record { complete = None; partial = None; backward = false; point = 7 }
 time_code_from (Some code) = code
 
 -- A nibble that doesn't go on with the word. Type 0 begins one forward, type 7 one backward, and with another type there
 -- is none.
-abbrev pub restarted : (kind nibble : ℕ) → TimeCode → TimeCode
+abbrev pub restarted : (kind nibble : ℕ) → TimePart → TimePart
 restarted kind nibble code =
     if kind == 0 then record code { partial = Some (set_nibble 0 0 nibble); backward = false; point = 0 }
     else (if kind == 7 then record code { partial = Some (set_nibble 0 7 nibble); backward = true; point = 7 }
     else record code { partial = None; point = if code.backward then 0 else 7 })
 
 -- The next nibble of this word: it is complete with type 7 forward, and with type 0 backward.
-abbrev pub advanced : (kind nibble word : ℕ) → TimeCode → TimeCode
+abbrev pub advanced : (kind nibble word : ℕ) → TimePart → TimePart
 advanced kind nibble word code =
     if kind == (if code.backward then 0 else 7)
     then record code { complete = Some (set_nibble word kind nibble); partial = None; point = kind }
     else record code { partial = Some (set_nibble word kind nibble); point = kind }
 
 -- whether this type follows the last one of the word that is being spelled
-abbrev pub is_next : ℕ → TimeCode → Bool
+abbrev pub is_next : ℕ → TimePart → Bool
 is_next kind code = if code.backward then kind + 1 == code.point else kind == code.point + 1
 
-abbrev pub framed_on : (kind nibble : ℕ) → TimeCode → Option ℕ → TimeCode
+abbrev pub framed_on : (kind nibble : ℕ) → TimePart → Option ℕ → TimePart
 framed_on kind nibble code None = restarted kind nibble code
 framed_on kind nibble code (Some word) = if is_next kind code then advanced kind nibble word code else restarted kind nibble code
 
 -- one quarter frame more
-abbrev pub framed : (kind nibble : ℕ) → TimeCode → TimeCode
+abbrev pub framed : (kind nibble : ℕ) → TimePart → TimePart
 framed kind nibble code = framed_on kind nibble code code.partial
 
 -- the high three bits of a quarter frame are its type, the low four its nibble
-abbrev pub time_code_step : Option TimeCode → FrameEvent → Option TimeCode
+abbrev pub time_code_step : Option TimePart → FrameEvent → Option TimePart
 time_code_step state (Framed value) = Some (framed (value / 16) (value % 16) (time_code_from state))
 time_code_step state Cleared = None
 time_code_step state Other = state
 
-abbrev pub time_code_along : Option TimeCode → Sent → Option TimeCode
+abbrev pub time_code_along : Option TimePart → Sent → Option TimePart
 time_code_along state place = time_code_step state (frame_event place.command)
 
 -- The time code behind these commands: none where no quarter frame came since the last Reset State command.
-unfoldable pub time_code_after : List Sent → Option TimeCode
+unfoldable pub time_code_after : List Sent → Option TimePart
 time_code_after sent = fold time_code_along None sent
 
 -- POINT is a type
-abbrev pub IsTimeCode : Option TimeCode → Type 0
+abbrev pub IsTimeCode : Option TimePart → Type 0
 IsTimeCode None = Unit {0}
 IsTimeCode (Some code) = code.point < 8
