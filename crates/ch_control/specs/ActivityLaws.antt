@@ -7,11 +7,11 @@ use Rattle.jm_cmds.specs.declared.commands.Command.TheVariants.{Control}
 use Rattle.jm_cmds.specs.declared.controls.ControlKind.{ControlKind}
 use Rattle.jm_cmds.specs.declared.controls.ControlKind.TheVariants.{DataEntry, Selection, Increment, Silence, ResetControllers, Mode, Kept, Plain}
 use Rattle.jm_cmds.specs.declared.history.Sent.{Sent}
-use Rattle.jm_cmds.specs.Control.{control_kind, control_number, clears_controllers, is_reset, ends_controllers}
+use Rattle.jm_cmds.specs.Control.{is_entry, control_kind, control_number, clears_controllers, is_reset, ends_controllers}
 use Rattle.jm_cmds.specs.ControlLaws.{control_number-control_kind}
 use Rattle.ch_control.specs.declared.events.ControlEvent.{ControlEvent}
 use Rattle.ch_control.specs.declared.events.ControlEvent.TheVariants.{Set, Dropped, Other}
-use Rattle.ch_control.specs.ControlEvent.{is_entry, item_of, is_kept, control_event, event_at, event_ends, concerns, control_ends}
+use Rattle.ch_control.specs.ControlEvent.{item_of, is_kept, control_event, event_at, event_ends, concerns, control_ends}
 use Rattle.ch_control.specs.Activity.{is_same}
 
 -- Control 121 alone clears controllers

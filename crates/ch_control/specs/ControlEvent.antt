@@ -4,15 +4,11 @@ use Rattle.std.specs.List.{AllByRecursion}
 use Rattle.jm_cmds.specs.declared.commands.Command.{Command}
 use Rattle.jm_cmds.specs.declared.commands.Command.TheVariants.{Control}
 use Rattle.jm_cmds.specs.declared.history.Sent.{Sent}
-use Rattle.jm_cmds.specs.Control.{is_reset}
+use Rattle.jm_cmds.specs.Control.{is_entry, is_reset}
 use Rattle.ch_control.specs.declared.events.ControlEvent.{ControlEvent}
 use Rattle.ch_control.specs.declared.events.ControlEvent.TheVariants.{Set, Dropped, Other}
 
 -- ## Controllers by their numbers
-
--- the two that set a half of a parameter: they belong to Chapter M
-unfoldable pub is_entry : ℕ → Bool
-is_entry number = number == 6 || number == 38
 
 -- the item of a controller: 124 and 125 are one, and so are 126 and 127
 unfoldable pub item_of : ℕ → ℕ

@@ -7,13 +7,13 @@ use Rattle.std.proofs.lemmas.List.Sums.{sum_by-cons}
 use Rattle.jm_cmds.specs.declared.commands.Command.{Command}
 use Rattle.jm_cmds.specs.declared.commands.Command.TheVariants.{Control}
 use Rattle.jm_cmds.specs.declared.history.Sent.{Sent}
-use Rattle.jm_cmds.specs.Control.{is_reset}
+use Rattle.jm_cmds.specs.Control.{is_entry, is_reset}
 use Rattle.jm_cmds.specs.History.{standing, Unended}
 use Rattle.jm_cmds.specs.HistoryLaws.{Unended-standing}
 use Rattle.jm_cmds.specs.Keys.{key_count, EndsKey, keys_all, keys_few, none_some}
 use Rattle.ch_control.specs.declared.events.ControlEvent.{ControlEvent}
 use Rattle.ch_control.specs.declared.events.ControlEvent.TheVariants.{Set, Dropped, Other}
-use Rattle.ch_control.specs.ControlEvent.{is_entry, item_of, control_event, event_at, event_ends, control_ends, IsWithin, AreWithin}
+use Rattle.ch_control.specs.ControlEvent.{item_of, control_event, event_at, event_ends, control_ends, IsWithin, AreWithin}
 use Rattle.ch_control.specs.ChapterC.{is_set, log_count}
 
 -- the place of an item among the 124 items
@@ -43,7 +43,7 @@ NoEntry (Set number value) = is_entry number ≡ false
 NoEntry Dropped = Unit {0}
 NoEntry Other = Unit {0}
 
-not-true : (b : Bool) → not b ≡ true → b ≡ false
+pub not-true : (b : Bool) → not b ≡ true → b ≡ false
 not-true true e = absurd (let f : false ≡ true = e in cc)
 not-true false e = refl
 

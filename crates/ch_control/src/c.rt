@@ -1,39 +1,17 @@
 //! Chapter C: the latest value of each controller, or how often it was sent (RFC 6295, A.3).
 
-ghost use Rattle.std.specs.Prelude.{◌≡◌, ◌+◌, ◌-◌, ◌≤◌, ◌<◌, ◌^◌, ◌∷◌, ◌||◌, ◌&&◌, if◌then◌else◌, length};
+ghost use Rattle.std.specs.Prelude.{◌≡◌, ◌≤◌, None, if◌then◌else◌, length};
+ghost use Rattle.std.specs.List.{list_any};
 ghost use Rattle.jm_wire.specs.Octets.{Appends};
 ghost use Rattle.jm_cmds.specs.History.{InOrder, standing};
+ghost use Rattle.jm_cmds.specs.Listed.{log_text, texts};
 ghost use Rattle.jm_cmds.specs.Sent.{packet_of};
-ghost use Rattle.ch_control.specs.ControlEvent.{control_ends, IsWithin};
-ghost use Rattle.ch_control.specs.ChapterC.{is_set, event_log, logs_of, log_count, has_fresh, with_header, chapter_c, fresh_c};
+ghost use Rattle.ch_control.specs.ControlEvent.{control_ends};
+ghost use Rattle.ch_control.specs.ChapterC.{is_set, event_log, control_log, log_count, some_fresh, chapter_c, fresh_c};
 
 use crate::events::{ControlEvent, standing_event, value_field};
-use jm_cmds::{Channel, Sent, checkpoint_history, first_place, s_of, session_history};
+use jm_cmds::{Channel, Log, Logs, Sent, checkpoint_history, first_place, session_history};
 use jm_wire::Octets;
-
-/// What the header stands on: how many logs there are, and whether one is of the packet before.
-#[derive(Clone, Copy, Drop)]
-struct Logs {
-    count: usize,
-    fresh: bool,
-}
-
-impl Logs {
-    /// Counts one more event. `is_fresh` says whether it is of the packet before.
-    fn add(self, event: &ControlEvent, is_fresh: bool) -> Logs
-        requires { self.count + 1 < 2 ^ 64 }
-        ensures count { result.count ≡ self.count + (if is_set event.now then 1 else 0) }
-        ensures fresh { result.fresh ≡ (self.fresh || (is_set event.now && is_fresh)) }
-    {
-        if is_set(event) {
-            return Logs {
-                count: self.count + 1,
-                fresh: self.fresh || is_fresh,
-            };
-        }
-        self
-    }
-}
 
 /// Whether this event has a log.
 fn is_set(event: &ControlEvent) -> bool
@@ -45,44 +23,61 @@ fn is_set(event: &ControlEvent) -> bool
 /// The controllers that stand among these places, counted.
 fn logs_among(places: &[Sent], channel: Channel, packet: u64) -> Logs
     ensures count { result.count ≡ log_count channel (standing (control_ends channel) places.now) }
-    ensures fresh { result.fresh ≡ has_fresh channel packet (standing (control_ends channel) places.now) }
+    ensures fresh { result.fresh ≡ some_fresh channel packet (standing (control_ends channel) places.now) }
     ensures bound { result.count ≤ 124 }
 {
-    let mut logs = Logs {
-        count: 0,
-        fresh: false,
-    };
+    let mut logs = Logs::empty();
     let mut rest = places;
     while let Some((place, later)) = first_place(rest) {
         let event = standing_event(place, later, channel);
-        logs = logs.add(&event, place.is_fresh(packet));
+        logs = logs.add(is_set(&event), place.is_fresh(packet));
         rest = later;
     }
     logs
 }
 
-/// Appends the log of this event, if it has one, with this high bit.
-fn write_log(event: ControlEvent, s: u8, channel: Channel, session: &[Sent], out: &mut Octets)
-    requires within { IsWithin event }
-    requires s_fits { s ≤ 128 }
-    requires spare { length (event_log s channel session.now event) ≤ out.old.spare }
-    ensures { Appends out.old out.new (event_log s channel session.now event) }
+/// The log of this event of the session, if it has one.
+fn event_log(event: ControlEvent, session: &[Sent], channel: Channel) -> Option<Log>
+    ensures { result ≡ event_log channel session.now event }
 {
-    if let ControlEvent::Set { number, value } = event {
-        out.push(s + number.get());
-        out.push(value_field(session, channel, number, value));
+    match event {
+        ControlEvent::Set { number, value } => {
+            let field = value_field(session, channel, number, value);
+            Some(Log { number, field })
+        }
+        ControlEvent::Dropped | ControlEvent::Other => None,
+    }
+}
+
+/// The log of this place, if it has one and no later place ends it.
+fn standing_log(place: &Sent, later: &[Sent], session: &[Sent], channel: Channel) -> Option<Log>
+    ensures { result
+        ≡ (if list_any (control_ends channel place.now) later.now then None else control_log channel session.now place.now) }
+{
+    event_log(standing_event(place, later, channel), session, channel)
+}
+
+/// Appends this log, if it is there, with this high bit.
+fn write_log(log: Option<Log>, s: u8, out: &mut Octets)
+    requires s_fits { s ≤ 128 }
+    requires spare { length (log_text s log) ≤ out.old.spare }
+    ensures { Appends out.old out.new (log_text s log) }
+{
+    if let Some(log) = log {
+        out.push(s + log.number.get());
+        out.push(log.field);
     }
 }
 
 /// Appends the logs of the controllers that stand among these places.
 fn write_logs(places: &[Sent], session: &[Sent], channel: Channel, packet: u64, out: &mut Octets)
-    requires { length (logs_of channel packet session.now places.now) ≤ out.old.spare }
-    ensures { Appends out.old out.new (logs_of channel packet session.now places.now) }
+    requires { length (texts (control_log channel session.now) packet (standing (control_ends channel) places.now)) ≤ out.old.spare }
+    ensures { Appends out.old out.new (texts (control_log channel session.now) packet (standing (control_ends channel) places.now)) }
 {
     let mut rest = places;
     while let Some((place, later)) = first_place(rest) {
-        let event = standing_event(place, later, channel);
-        write_log(event, place.s_bit(packet), channel, session, out);
+        let log = standing_log(place, later, session, channel);
+        write_log(log, place.s_bit(packet), out);
         rest = later;
     }
 }
@@ -96,11 +91,7 @@ pub fn plain_len(list: &[Sent], channel: Channel, from: u64, packet: u64, tick: 
     ensures bound { result ≤ 249 }
 {
     let _ = tick;
-    let logs = logs_among(checkpoint_history(list, from, packet), channel, packet);
-    if logs.count == 0 {
-        return 0;
-    }
-    1 + 2 * logs.count
+    logs_among(checkpoint_history(list, from, packet), channel, packet).len()
 }
 
 /// Appends Chapter C of this channel for the journal of this packet: what the packets from `from` on left
@@ -122,7 +113,7 @@ pub fn plain_write(
     let places = checkpoint_history(list, from, packet);
     let logs = logs_among(places, channel, packet);
     if logs.count > 0 {
-        out.push(s_of(logs.fresh) + (logs.count as u8 - 1));
+        out.push(logs.header());
         write_logs(places, session, channel, packet, out);
     }
 }

@@ -3,9 +3,9 @@
 ghost use Rattle.std.specs.Prelude.{◌≡◌, ◌%◌, ◌<◌, if◌then◌else◌};
 ghost use Rattle.std.specs.List.{list_any};
 ghost use Rattle.ch_control.specs.declared.events.ControlEvent.TheVariants.{Other};
-ghost use Rattle.ch_control.specs.ControlEvent.{is_entry, item_of, is_kept, is_counted, control_event, IsWithin, event_ends, event_at, control_ends, is_control, control_count, value_field};
+ghost use Rattle.ch_control.specs.ControlEvent.{item_of, is_kept, is_counted, control_event, IsWithin, event_ends, event_at, control_ends, is_control, control_count, value_field};
 
-use jm_cmds::{Channel, Command, D7, Sent};
+use jm_cmds::{Channel, Command, D7, Sent, is_entry};
 
 /// What a command means for the controllers of one channel.
 #[derive(Clone, Copy, PartialEq, Eq, Debug)]
@@ -16,14 +16,6 @@ pub enum ControlEvent {
     Dropped,
     /// Nothing.
     Other,
-}
-
-/// Whether it is 6 or 38, which set a half of a parameter and belong to Chapter M (RFC 6295, A.3.4).
-#[tactic(auto, unfolding(crate::specs::ControlEvent::is_entry))]
-fn is_entry(number: D7) -> bool
-    ensures { result ≡ is_entry number }
-{
-    matches!(number.get(), 6 | 38)
 }
 
 /// The item of a controller: its number, but 124 and 125 are one item, and so are 126 and 127

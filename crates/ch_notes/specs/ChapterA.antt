@@ -8,9 +8,9 @@ use Rattle.jm_cmds.specs.Keys.{key_count, has_key}
 use Rattle.jm_cmds.specs.Sent.{packet_of, is_fresh}
 use Rattle.ch_notes.specs.declared.presses.PolyEvent.{PolyEvent}
 use Rattle.ch_notes.specs.declared.presses.PolyEvent.TheVariants.{Pressed, Dropped, Other}
-use Rattle.ch_notes.specs.declared.listed.Log.{Log}
+use Rattle.jm_cmds.specs.declared.listed.Log.{Log}
 use Rattle.ch_notes.specs.PolyEvent.{poly_at, poly_ends, poly_key, is_pressed, presses}
-use Rattle.ch_notes.specs.Listed.{listed, has_fresh}
+use Rattle.jm_cmds.specs.Listed.{listed, has_fresh}
 
 -- Whether the latest pressure on the note is no longer N-active: what ends all notes of the channel came
 -- behind it.
@@ -26,7 +26,7 @@ x_bit muted = if muted then 128 else 0
 
 -- X and the pressure
 abbrev pub press_log : ℕ → List Sent → PolyEvent → Option Log
-press_log channel session (Pressed note value) = Some (record { note = note; field = x_bit (is_muted channel note session) + value })
+press_log channel session (Pressed note value) = Some (record { number = note; field = x_bit (is_muted channel note session) + value })
 press_log channel session Dropped = None
 press_log channel session Other = None
 

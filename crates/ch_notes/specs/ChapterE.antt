@@ -5,10 +5,10 @@ use Rattle.jm_cmds.specs.History.{below}
 use Rattle.jm_cmds.specs.Sent.{packet_of}
 use Rattle.ch_notes.specs.declared.events.NoteEvent.{NoteEvent}
 use Rattle.ch_notes.specs.declared.events.NoteEvent.TheVariants.{Struck, Released, Cleared, Other}
-use Rattle.ch_notes.specs.declared.listed.Log.{Log}
+use Rattle.jm_cmds.specs.declared.listed.Log.{Log}
 use Rattle.ch_notes.specs.NoteEvent.{event_at}
 use Rattle.ch_notes.specs.ChapterN.{coded_notes}
-use Rattle.ch_notes.specs.Listed.{listed, has_fresh}
+use Rattle.jm_cmds.specs.Listed.{listed, has_fresh}
 
 -- The reference count of a note behind one more event: a NoteOn adds 1, up to 127, a NoteOff takes 1, down
 -- to 0, and what ends all notes makes it 0.
@@ -28,13 +28,13 @@ ref_count channel note session = fold (count_step channel note) 0 session
 -- The second octet of the log: V=0 and the count where it isn't what Chapter N alone says, else V=1 and the
 -- release velocity where it isn't 64, else no log at all.
 abbrev pub struck_log : ℕ → ℕ → Option Log
-struck_log note count = if count == 1 then None else Some (record { note = note; field = count })
+struck_log note count = if count == 1 then None else Some (record { number = note; field = count })
 
 abbrev pub released_log : ℕ → ℕ → ℕ → Option Log
 released_log note velocity count =
     if count == 0
-    then (if velocity == 64 then None else Some (record { note = note; field = 128 + velocity }))
-    else Some (record { note = note; field = count })
+    then (if velocity == 64 then None else Some (record { number = note; field = 128 + velocity }))
+    else Some (record { number = note; field = count })
 
 abbrev pub extra_log : ℕ → List Sent → NoteEvent → Option Log
 extra_log channel session (Struck note velocity) = struck_log note (ref_count channel note session)

@@ -1,6 +1,7 @@
 -- What counting the places gives: the numbers of Chapter N.
 use Rattle.std.proofs.Common.{◌≡◌, ◌≢◌, ℕ, ◌+◌, ◌/◌, ◌<◌, Bool, true, false, cond, ◌&&◌, ◌||◌, eqb, List, [], ◌∷◌, length, fold, get_or, set, refl, sym, ap, ◌∙◌, arith, inl, inr, length-set, min, max}
 use Rattle.std.specs.List.{list_any, cons_option}
+use Rattle.std.proofs.Math.Bool.{or_assoc}
 use Rattle.std.proofs.lemmas.Bool.{cases_Bool, eqb-true, eqb-false}
 use Rattle.std.proofs.lemmas.List.Sums.{sum_by-cons}
 use Rattle.std.proofs.lemmas.List.{get_or-set_same, get_or-set_other}
@@ -71,10 +72,6 @@ counted-high channel packet s (x ∷ xs) =
 or_false : (a : Bool) → (a || false) ≡ a
 or_false true = refl
 or_false false = refl
-
-or_assoc : (a b c : Bool) → ((a || b) || c) ≡ (a || (b || c))
-or_assoc true b c = refl
-or_assoc false b c = refl
 
 step-fresh_off : (s : Shape) (fresh : Bool) (event : NoteEvent) → (shape_step s fresh event).fresh_off ≡ (s.fresh_off || (is_released event && fresh))
 step-fresh_off s fresh (Struck note velocity) = sym (or_false s.fresh_off)

@@ -15,8 +15,8 @@ use Rattle.ch_notes.specs.NoteEvent.{event_at, note_ends, IsWithin, AreWithin}
 use Rattle.ch_notes.specs.CountBounds.{note_of, notes_of, notes-few}
 use Rattle.ch_notes.specs.FreshLaws.{IsWithin-event}
 use Rattle.ch_notes.specs.ChapterN.{coded_notes}
-use Rattle.ch_notes.specs.Listed.{listed, count_logs, has_fresh, log_shows_fresh}
-use Rattle.ch_notes.specs.ListedLaws.{FitsLog, listed-shows}
+use Rattle.jm_cmds.specs.Listed.{listed, count_logs, has_fresh, log_shows_fresh}
+use Rattle.jm_cmds.specs.ListedLaws.{FitsLog, listed-shows}
 use Rattle.ch_notes.specs.ChapterE.{ref_count, extra_log, extra_at, chapter_e, fresh_e}
 
 pub extra-standing : (channel : ℕ) (session : List Sent) (b : Bool) (event : NoteEvent) → extra_log channel session (cond b Other event) ≡ cond b None (extra_log channel session event)
@@ -75,11 +75,11 @@ FitsLog-if false one other h k = k
 FitsLog-extra : (channel : ℕ) (session : List Sent) (event : NoteEvent) → IsWithin event → FitsLog (extra_log channel session event)
 FitsLog-extra channel session (Struck note velocity) w =
     let count = ref_count channel note session in
-    FitsLog-if (eqb count 1) None (Some (record { note = note; field = count })) tt w.0
+    FitsLog-if (eqb count 1) None (Some (record { number = note; field = count })) tt w.0
 FitsLog-extra channel session (Released note velocity) w =
     let count = ref_count channel note session in
-    FitsLog-if (eqb count 0) (cond (eqb velocity 64) None (Some (record { note = note; field = 128 + velocity }))) (Some (record { note = note; field = count }))
-    (FitsLog-if (eqb velocity 64) None (Some (record { note = note; field = 128 + velocity })) tt w) w
+    FitsLog-if (eqb count 0) (cond (eqb velocity 64) None (Some (record { number = note; field = 128 + velocity }))) (Some (record { number = note; field = count }))
+    (FitsLog-if (eqb velocity 64) None (Some (record { number = note; field = 128 + velocity })) tt w) w
 FitsLog-extra channel session Cleared w = tt
 FitsLog-extra channel session Other w = tt
 

@@ -9,8 +9,6 @@ pub mod BitLaws
 pub mod ChapterLaws
 pub mod Fresh
 pub mod FreshLaws
-pub mod Listed
-pub mod ListedLaws
 pub mod ChapterE
 pub mod PolyEvent
 pub mod ChapterA

@@ -1,6 +1,7 @@
 -- What the X bit of Chapter A tells (RFC 6295, A.9).
 use Rattle.std.proofs.Common.{◌≡◌, ℕ, Bool, true, false, cond, ◌||◌, List, [], ◌∷◌, ◌++◌, fold, refl, ap, ◌∙◌}
 use Rattle.std.specs.List.{list_any}
+use Rattle.std.proofs.Math.Bool.{or_assoc}
 use Rattle.std.proofs.lemmas.Bool.{or_parts, eq-eqb}
 use Rattle.std.proofs.lemmas.List.Sums.{fold-append}
 use Rattle.jm_cmds.specs.declared.history.Sent.{Sent}
@@ -15,10 +16,6 @@ abbrev pub XTellsActivity : Type 0
 XTellsActivity = (channel note value : ℕ) (before later : List Sent) (place : Sent) → poly_at channel place ≡ Pressed note value →
     list_any (λ after. presses note (poly_at channel after)) later ≡ false →
     is_muted channel note (before ++ place ∷ later) ≡ list_any (λ after. ends_notes channel after.command) later
-
-or_assoc : (a b c : Bool) → ((a || b) || c) ≡ (a || (b || c))
-or_assoc true b c = refl
-or_assoc false b c = refl
 
 or_false : (a : Bool) → a ≡ (a || false)
 or_false true = refl

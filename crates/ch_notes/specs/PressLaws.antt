@@ -3,6 +3,7 @@ use Rattle.std.proofs.Common.{◌≡◌, ℕ, ◌+◌, ◌≤◌, ◌<◌, Bool,
 use Rattle.std.specs.Prelude.{count_by}
 use Rattle.std.specs.List.{list_any, filter_map, cons_option, AllByRecursion}
 use Rattle.std.specs.Option.{is_some}
+use Rattle.std.proofs.Math.Bool.{or_assoc}
 use Rattle.std.proofs.lemmas.Bool.{cases_Bool}
 use Rattle.std.proofs.lemmas.List.Sums.{sum_by-cons}
 use Rattle.jm_cmds.specs.Sent.{shows_fresh as header_shows_fresh}
@@ -19,8 +20,8 @@ use Rattle.ch_notes.specs.declared.presses.PolyEvent.{PolyEvent}
 use Rattle.ch_notes.specs.declared.presses.PolyEvent.TheVariants.{Pressed, Dropped, Other}
 use Rattle.ch_notes.specs.PolyEvent.{poly_event, poly_at, poly_ends, poly_key, pressed_note, is_pressed, presses, IsWithin, ArePresses}
 use Rattle.ch_notes.specs.PolyLimits.{EndsKey-poly}
-use Rattle.ch_notes.specs.Listed.{listed, count_logs, has_fresh, log_shows_fresh}
-use Rattle.ch_notes.specs.ListedLaws.{FitsLog, listed-shows}
+use Rattle.jm_cmds.specs.Listed.{listed, count_logs, has_fresh, log_shows_fresh}
+use Rattle.jm_cmds.specs.ListedLaws.{FitsLog, listed-shows}
 use Rattle.ch_notes.specs.ChapterA.{press_log, press_at, some_fresh, coded_presses, chapter_a, fresh_a, poly_count}
 
 pub press-standing : (channel : ℕ) (session : List Sent) (b : Bool) (event : PolyEvent) → press_log channel session (cond b Other event) ≡ cond b None (press_log channel session event)
@@ -94,10 +95,6 @@ step-has : (note : ℕ) (event : PolyEvent) (notes : List ℕ) → list_any (eqb
 step-has note (Pressed other value) notes = refl
 step-has note Dropped notes = refl
 step-has note Other notes = refl
-
-or_assoc : (a b c : Bool) → ((a || b) || c) ≡ (a || (b || c))
-or_assoc true b c = refl
-or_assoc false b c = refl
 
 has-more : (channel note : ℕ) (place : Sent) (later : List Sent) →
     has_key (poly_key channel) note (standing (poly_ends channel) (place ∷ later))

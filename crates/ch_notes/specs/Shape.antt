@@ -41,9 +41,13 @@ is_bare s = s.logs == 0 && s.off == 0
 abbrev pub first_field : Shape → ℕ
 first_field s = (if s.fresh_off then 0 else 128) + min 127 s.logs
 
+-- HIGH, which tells 127 logs from 128 where no note is released
+abbrev pub high_field : Shape → ℕ
+high_field s = if s.off == 0 && s.logs == 127 then 1 else s.high
+
 -- LOW and HIGH
 abbrev pub second_field : Shape → ℕ
-second_field s = 16 * s.low + (if s.off == 0 && s.logs == 127 then 1 else s.high)
+second_field s = 16 * s.low + high_field s
 
 -- how many octets of bits there are
 abbrev pub span : Shape → ℕ

@@ -8,12 +8,14 @@ ghost use Rattle.jm_cmds.specs.Keys.{key_count, has_key};
 ghost use Rattle.jm_cmds.specs.Sent.{packet_of};
 ghost use Rattle.jm_cmds.specs.declared.history.Sent.{Sent};
 ghost use Rattle.ch_notes.specs.PolyEvent.{poly_ends, poly_key, is_pressed, presses};
-ghost use Rattle.ch_notes.specs.Listed.{texts};
+ghost use Rattle.jm_cmds.specs.Listed.{texts};
 ghost use Rattle.ch_notes.specs.ChapterA.{muted_step, is_muted, x_bit, press_log, press_at, some_fresh, chapter_a, fresh_a, poly_count, has_poly};
 
-use crate::listed::{Log, Logs, write_log};
+use crate::listed::write_log;
 use crate::presses::{PolyEvent, poly_event, standing_press};
-use jm_cmds::{Channel, D7, Sent, checkpoint_history, first_place, place_of, session_history};
+use jm_cmds::{
+    Channel, D7, Log, Logs, Sent, checkpoint_history, first_place, place_of, session_history,
+};
 use jm_wire::Octets;
 
 /// Whether this event is a pressure.
@@ -71,7 +73,7 @@ fn press_log(event: PolyEvent, session: &[Sent], channel: Channel) -> Option<Log
         PolyEvent::Pressed { note, value } => {
             let x = x_bit(is_muted(session, channel, note));
             Some(Log {
-                note,
+                number: note,
                 field: x + value.get(),
             })
         }

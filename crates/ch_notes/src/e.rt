@@ -7,12 +7,12 @@ ghost use Rattle.jm_cmds.specs.History.{InOrder, standing};
 ghost use Rattle.jm_cmds.specs.Sent.{packet_of};
 ghost use Rattle.ch_notes.specs.declared.events.NoteEvent.TheVariants.{Other};
 ghost use Rattle.ch_notes.specs.NoteEvent.{IsWithin, event_at, note_ends};
-ghost use Rattle.ch_notes.specs.Listed.{texts, count_logs, has_fresh};
+ghost use Rattle.jm_cmds.specs.Listed.{texts, count_logs, has_fresh};
 ghost use Rattle.ch_notes.specs.ChapterE.{count_event, ref_count, struck_log, released_log, extra_log, extra_at, chapter_e, fresh_e};
 
 use crate::events::{NoteEvent, note_event, standing_event};
-use crate::listed::{Log, Logs, write_log};
-use jm_cmds::{Channel, D7, Sent, checkpoint_history, first_place, session_history};
+use crate::listed::write_log;
+use jm_cmds::{Channel, D7, Log, Logs, Sent, checkpoint_history, first_place, session_history};
 use jm_wire::Octets;
 
 /// The reference count of a note behind one more event.
@@ -58,7 +58,10 @@ fn struck_log(note: D7, count: u8) -> Option<Log>
     if count == 1 {
         return None;
     }
-    Some(Log { note, field: count })
+    Some(Log {
+        number: note,
+        field: count,
+    })
 }
 
 /// The log of a released note with this count: the count unless it is 0, else the velocity unless it is
@@ -67,14 +70,17 @@ fn released_log(note: D7, velocity: D7, count: u8) -> Option<Log>
     ensures { result ≡ released_log note velocity count }
 {
     if count > 0 {
-        return Some(Log { note, field: count });
+        return Some(Log {
+            number: note,
+            field: count,
+        });
     }
     let velocity = velocity.get();
     if velocity == 64 {
         return None;
     }
     Some(Log {
-        note,
+        number: note,
         field: 128 + velocity,
     })
 }

@@ -14,7 +14,6 @@ mod presses;
 mod shape;
 
 pub use events::{NoteEvent, note_event};
-pub use listed::Log;
 pub use presses::{PolyEvent, poly_event, pressed_note};
 
 #[cfg(test)]

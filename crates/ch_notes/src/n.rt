@@ -84,8 +84,7 @@ fn write_parts(
     ensures { Appends out.old out.new (first_field shape.now ∷ second_field shape.now
         ∷ (logs_of channel packet tick places.now ++ mark_octets shape.now)) }
 {
-    out.push(shape.first_field());
-    out.push(shape.second_field());
+    out.push_slice(&shape.head().pack());
     write_logs(places, channel, packet, tick, out);
     shape.write_bits(out);
 }

@@ -1,13 +1,14 @@
 //! What Chapter N's header and bits stand on.
 
-ghost use Rattle.std.specs.Prelude.{◌≡◌, ◌+◌, ◌≤◌, ◌<◌, ◌^◌, length};
+ghost use Rattle.std.specs.Prelude.{◌≡◌, ◌+◌, ◌≤◌, ◌<◌, ◌^◌, [], ◌∷◌, length};
+ghost use Rattle.jm_wire.specs.Heads.{FitsNote, note_octets};
 ghost use Rattle.jm_wire.specs.Octets.{Appends};
 ghost use Rattle.ch_notes.specs.NoteEvent.{IsWithin};
 ghost use Rattle.ch_notes.specs.Count.{IsCount};
-ghost use Rattle.ch_notes.specs.Shape.{shape_step, no_notes, is_bare, shape_len, first_field, second_field, span, mark_bit, mark_octet, mark_octets};
+ghost use Rattle.ch_notes.specs.Shape.{shape_step, no_notes, is_bare, shape_len, first_field, second_field, high_field, span, mark_bit, mark_octet, mark_octets};
 
 use crate::events::NoteEvent;
-use jm_wire::Octets;
+use jm_wire::{NoteHead, Octets};
 
 /// The coded notes of a channel, counted: how many have a log, and which are released.
 #[derive(Drop)]
@@ -94,23 +95,30 @@ impl Shape {
         2 + 2 * self.logs + span as usize
     }
 
-    /// B and LEN.
-    pub(crate) fn first_field(&self) -> u8
-        ensures { result ≡ first_field self.now }
-    {
-        let len = self.logs.min(127) as u8;
-        if self.fresh_off { len } else { 128 + len }
-    }
-
-    /// LOW and HIGH. Where no note is released, HIGH tells 127 logs from 128.
-    pub(crate) fn second_field(&self) -> u8
+    /// HIGH, which tells 127 logs from 128 where no note is released.
+    fn high_field(&self) -> u8
         requires { IsCount self.now }
-        ensures { result ≡ second_field self.now }
+        ensures field { result ≡ high_field self.now }
+        ensures bound { result ≤ 15 }
     {
         if self.off == 0 && self.logs == 127 {
-            return 16 * self.low + 1;
+            return 1;
         }
-        16 * self.low + self.high
+        self.high
+    }
+
+    /// The chapter's header.
+    pub(crate) fn head(&self) -> NoteHead
+        requires { IsCount self.now }
+        ensures octets { note_octets result ≡ first_field self.now ∷ second_field self.now ∷ [] }
+        ensures fits { FitsNote result }
+    {
+        NoteHead {
+            b: !self.fresh_off,
+            len: self.logs.min(127) as u8,
+            low: self.low,
+            high: self.high_field(),
+        }
     }
 
     /// 1 where this note is released, else 0.

@@ -1,5 +1,5 @@
 -- How many parameters are coded, when a command is sent or the checkpoint goes on.
-use Rattle.std.proofs.Common.{◌≡◌, ℕ, ◌+◌, ◌≤◌, Bool, true, false, not, cond, ◌||◌, eqb, leb, ◌⊎◌, List, [], ◌∷◌, ◌++◌, Option, Some, None, fold, length, refl, sym, ap, ◌∙◌, arith, inl, inr, length-append}
+use Rattle.std.proofs.Common.{◌≡◌, ℕ, ◌+◌, ◌≤◌, Bool, true, false, not, cond, eqb, leb, ◌⊎◌, List, [], ◌∷◌, ◌++◌, Option, Some, None, fold, length, refl, sym, ap, ◌∙◌, arith, inl, inr, length-append}
 use Rattle.std.specs.List.{list_any, filter, filter_map, cons_option}
 use Rattle.std.proofs.lemmas.Bool.{cases_Bool, or_cases, or_parts, eqb-false}
 use Rattle.std.proofs.lemmas.List.Elements.{filter_map-append}
@@ -8,7 +8,7 @@ use Rattle.jm_cmds.specs.declared.commands.Command.TheVariants.{Control}
 use Rattle.jm_cmds.specs.declared.controls.ControlKind.{ControlKind}
 use Rattle.jm_cmds.specs.declared.controls.ControlKind.TheVariants.{DataEntry}
 use Rattle.jm_cmds.specs.declared.history.Sent.{Sent}
-use Rattle.jm_cmds.specs.Control.{control_kind, control_number, is_reset}
+use Rattle.jm_cmds.specs.Control.{is_entry, control_kind, control_number, is_reset}
 use Rattle.jm_cmds.specs.ControlLaws.{control_number-control_kind}
 use Rattle.jm_cmds.specs.History.{coded, below}
 use Rattle.jm_cmds.specs.HistoryLaws.{coded-push, coded-later, scanned-push}
@@ -141,7 +141,8 @@ param_count-push channel from sent x l =
     let place = last_place channel sent x in
     omega (arith, count-push channel from sent x, entered-push channel from places place l, left_shorter channel from places place, at_most_one (entered_at channel place))
 
-no_entry : (s : Selection) (kind : ControlKind) (number value : ℕ) → control_number kind ≡ number → (eqb number 6 || eqb number 38) ≡ false → event_param (param_event s (control_command kind value)) ≡ None
+no_entry : (s : Selection) (kind : ControlKind) (number value : ℕ) → control_number kind ≡ number → is_entry number ≡ false → event_param (param_event s (control_command kind value)) ≡ None
+unfolding is_entry
 no_entry s (DataEntry true) number value k n = absurd (eqb-false number 6 (or_parts (eqb number 6) (eqb number 38) n).0 (sym k))
 no_entry s (DataEntry false) number value k n = absurd (eqb-false number 38 (or_parts (eqb number 6) (eqb number 38) n).1 (sym k))
 no_entry s kind number value k n = refl

@@ -10,6 +10,7 @@ use Rattle.jm_cmds.specs.Control.{ends_notes, ends_controllers, is_reset}
 use Rattle.jm_cmds.specs.History.{Unended, standing, coded, below, scanned}
 use Rattle.jm_cmds.specs.HistoryLaws.{Unended-coded, AllByRecursion-filter, AllByRecursion-weaker, AllByRecursion-standing}
 use Rattle.jm_cmds.specs.Sent.{packet_of, is_fresh, s_of, shows_fresh}
+use Rattle.jm_cmds.specs.OneItem.{replaced}
 use Rattle.ch_voice.specs.declared.bank.Bank.{Bank}
 use Rattle.ch_voice.specs.declared.events.WheelEvent.{WheelEvent}
 use Rattle.ch_voice.specs.declared.events.WheelEvent.TheVariants as wheels
@@ -17,7 +18,6 @@ use Rattle.ch_voice.specs.declared.events.PressureEvent.{PressureEvent}
 use Rattle.ch_voice.specs.declared.events.PressureEvent.TheVariants as pressures
 use Rattle.ch_voice.specs.declared.events.ProgramEvent.{ProgramEvent}
 use Rattle.ch_voice.specs.declared.events.ProgramEvent.TheVariants as programs
-use Rattle.ch_voice.specs.OneItem.{replaced}
 use Rattle.ch_voice.specs.WheelEvent.{wheel_event, wheel_at, is_moved, ends_wheel, wheel_ends}
 use Rattle.ch_voice.specs.PressureEvent.{pressure_event, pressure_at, is_pressed, ends_pressure, pressure_ends}
 use Rattle.ch_voice.specs.ProgramEvent.{program_event, bank_event, is_chosen, ends_program}

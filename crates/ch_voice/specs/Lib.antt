@@ -1,4 +1,3 @@
-pub mod OneItem
 pub mod WheelEvent
 pub mod PressureEvent
 pub mod ProgramEvent

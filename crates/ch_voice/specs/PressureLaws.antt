@@ -4,10 +4,10 @@ use Rattle.std.specs.List.{flat_map, list_any}
 use Rattle.jm_cmds.specs.declared.history.Sent.{Sent}
 use Rattle.jm_cmds.specs.History.{standing, coded, below}
 use Rattle.jm_cmds.specs.Sent.{packet_of, is_fresh, s_of}
+use Rattle.jm_cmds.specs.OneItem.{KeepsLast, text-kept, fresh-kept, mark}
 use Rattle.ch_voice.specs.declared.events.PressureEvent.{PressureEvent}
 use Rattle.ch_voice.specs.declared.events.PressureEvent.TheVariants.{Pressed, Cleared, Other}
 use Rattle.ch_voice.specs.declared.pressure.PressureLog.{PressureLog}
-use Rattle.ch_voice.specs.OneItem.{KeepsLast, text-kept, fresh-kept, mark}
 use Rattle.ch_voice.specs.PressureEvent.{pressure_at, is_pressed, ends_pressure, pressure_ends}
 use Rattle.ch_voice.specs.ChapterT.{chapter_t, fresh_t, pressure_octets, pressure_log}
 use Rattle.ch_voice.specs.KeptPressure.{pressure_after, pressure_step, pressure_text, pressure_fresh}

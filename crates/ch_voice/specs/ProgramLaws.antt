@@ -3,11 +3,11 @@ use Rattle.std.proofs.Common.{◌≡◌, ℕ, Bool, true, false, cond, ◌&&◌,
 use Rattle.jm_cmds.specs.declared.history.Sent.{Sent}
 use Rattle.jm_cmds.specs.History.{standing, scanned, below}
 use Rattle.jm_cmds.specs.Sent.{packet_of, is_fresh, s_of}
+use Rattle.jm_cmds.specs.OneItem.{KeepsLast, text-kept, fresh-kept, mark, flat_map-since, any-since}
 use Rattle.ch_voice.specs.declared.bank.Bank.{Bank}
 use Rattle.ch_voice.specs.declared.events.ProgramEvent.{ProgramEvent}
 use Rattle.ch_voice.specs.declared.events.ProgramEvent.TheVariants.{Chosen, BankHigh, BankLow, SetBack, Reset, Other}
 use Rattle.ch_voice.specs.declared.program.ProgramLog.{ProgramLog}
-use Rattle.ch_voice.specs.OneItem.{KeepsLast, text-kept, fresh-kept, mark, flat_map-since, any-since}
 use Rattle.ch_voice.specs.ProgramEvent.{is_chosen, ends_program}
 use Rattle.ch_voice.specs.Bank.{no_bank, bank_step}
 use Rattle.ch_voice.specs.ChapterP.{Banked, banked_event, banked_packet, program_ends, chapter_p, fresh_p, program_octets, program_log}

@@ -4,10 +4,10 @@ use Rattle.std.specs.List.{flat_map, list_any}
 use Rattle.jm_cmds.specs.declared.history.Sent.{Sent}
 use Rattle.jm_cmds.specs.History.{standing, coded, below}
 use Rattle.jm_cmds.specs.Sent.{packet_of, is_fresh, s_of}
+use Rattle.jm_cmds.specs.OneItem.{KeepsLast, text-kept, fresh-kept, mark}
 use Rattle.ch_voice.specs.declared.events.WheelEvent.{WheelEvent}
 use Rattle.ch_voice.specs.declared.events.WheelEvent.TheVariants.{Moved, Cleared, Other}
 use Rattle.ch_voice.specs.declared.wheel.WheelLog.{WheelLog}
-use Rattle.ch_voice.specs.OneItem.{KeepsLast, text-kept, fresh-kept, mark}
 use Rattle.ch_voice.specs.WheelEvent.{wheel_at, is_moved, ends_wheel, wheel_ends}
 use Rattle.ch_voice.specs.ChapterW.{chapter_w, fresh_w, wheel_octets, wheel_log}
 use Rattle.ch_voice.specs.KeptWheel.{wheel_after, wheel_step, wheel_text, wheel_fresh}

@@ -29,6 +29,32 @@ spelling (Sysex octets) = 0xf0 ∷ (octets ++ 0xf7 ∷ [])
 abbrev pub status_of : Command → ℕ
 status_of command = slice_index (spelling command) 0
 
+-- the channel of a channel command is within its bound
+abbrev pub HasChannel : Command → Type 0
+HasChannel (NoteOff channel note velocity) = channel < 16
+HasChannel (NoteOn channel note velocity) = channel < 16
+HasChannel (PolyPressure channel note value) = channel < 16
+HasChannel (Control channel number value) = channel < 16
+HasChannel (Program channel program) = channel < 16
+HasChannel (Pressure channel value) = channel < 16
+HasChannel (Wheel channel first second) = channel < 16
+HasChannel _ = Unit {0}
+
+-- a channel command that speaks of one note
+abbrev pub IsOfNote : Command → Type 0
+IsOfNote (NoteOff channel note velocity) = Unit {0}
+IsOfNote (NoteOn channel note velocity) = Unit {0}
+IsOfNote (PolyPressure channel note value) = Unit {0}
+IsOfNote _ = ⊥
+
+-- a channel command that speaks of its whole channel
+abbrev pub IsOfChannel : Command → Type 0
+IsOfChannel (Control channel number value) = Unit {0}
+IsOfChannel (Program channel program) = Unit {0}
+IsOfChannel (Pressure channel value) = Unit {0}
+IsOfChannel (Wheel channel first second) = Unit {0}
+IsOfChannel _ = ⊥
+
 -- The numbers of a command are within their bounds. This holds of each command of a program, and is
 -- written where a law speaks of any command.
 abbrev pub IsCommand : Command → Type 0

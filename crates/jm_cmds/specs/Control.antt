@@ -21,6 +21,10 @@ control_kind number =
     else (if number == 0 || number == 32 || number == 122 then Kept number
     else Plain number))))))))))
 
+-- Controllers 6 and 38, which set a half of the selected parameter's value: of them Chapter M speaks alone.
+unfoldable pub is_entry : ℕ → Bool
+is_entry number = number == 6 || number == 38
+
 -- the number of a controller of this kind
 abbrev pub control_number : ControlKind → ℕ
 control_number (DataEntry high) = if high then 6 else 38

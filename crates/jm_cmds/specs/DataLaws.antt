@@ -1,9 +1,10 @@
 -- What holds of the data octets at the front.
-use Rattle.std.proofs.Common.{◌≡◌, ◌≤◌, ◌∷◌, [], ℕ, List, ltb, take, length, refl, arith, add-one, add_comm, inl, inr}
+use Rattle.std.proofs.Common.{◌≡◌, ◌≤◌, ◌%◌, ◌<◌, ◌∷◌, [], ℕ, List, ltb, take, length, refl, arith, add-one, add_comm, inl, inr}
 use Rattle.std.proofs.Math.Seq.{take-length}
-use Rattle.std.proofs.lemmas.Bool.{cases_Bool}
-use Rattle.std.proofs.lemmas.List.{length-take-le}
+use Rattle.std.proofs.lemmas.Bool.{cases_Bool, lt-ltb}
+use Rattle.std.proofs.lemmas.List.{length-take-le, length-map}
 use Rattle.jm_cmds.specs.Data.{IsData, data_len, IsSysex}
+use Rattle.jm_cmds.specs.SysexMade.{unmarked}
 
 pub IsData-front : (xs : List ℕ) → IsData (take (data_len xs) xs)
 IsData-front [] = refl
@@ -25,5 +26,15 @@ IsSysex-front xs n e l m =
       octets_are_data = rw e (IsData-front xs);
       few = rw (length-take-le n xs l) m;
     }
+
+-- seven bits are a data octet
+pub IsData-unmarked : (xs : List ℕ) → IsData (unmarked xs)
+IsData-unmarked [] = refl
+IsData-unmarked (x ∷ xs) =
+    let lt : x % 128 < 128 = omega arith in
+    rw (lt-ltb (x % 128) 128 lt) (IsData-unmarked xs)
+
+pub IsSysex-unmarked : (xs : List ℕ) → length xs ≤ 2046 → IsSysex (unmarked xs)
+IsSysex-unmarked xs few = record { octets_are_data = IsData-unmarked xs; few = rw (length-map xs (λ octet. octet % 128)) few }
 
 pub ruleset on_data = (IsData-front, IsData-whole)

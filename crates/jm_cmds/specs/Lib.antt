@@ -9,8 +9,11 @@ pub mod Spelled
 pub mod Reading
 pub mod History
 pub mod HistoryLaws
+pub mod OneItem
 pub mod Keys
 pub mod Sent
+pub mod Listed
+pub mod ListedLaws
 pub mod Sequencing
 pub mod Frames
 pub mod Param

@@ -1,10 +1,10 @@
 -- The selection of a parameter in a channel (RFC 6295, A.1 and A.3.4): a fold over the session's commands.
-use Rattle.std.specs.Prelude.{ℕ, Bool, true, false, ◌&&◌, ◌||◌, Option, Some, None, ◌==◌, if◌then◌else◌}
+use Rattle.std.specs.Prelude.{ℕ, Bool, true, false, ◌&&◌, Option, Some, None, ◌==◌, if◌then◌else◌}
 use Rattle.jm_cmds.specs.declared.commands.Command.{Command}
 use Rattle.jm_cmds.specs.declared.commands.Command.TheVariants.{Control}
 use Rattle.jm_cmds.specs.declared.controls.ControlKind.{ControlKind}
 use Rattle.jm_cmds.specs.declared.controls.ControlKind.TheVariants.{DataEntry, Selection, ResetControllers}
-use Rattle.jm_cmds.specs.Control.{control_kind, is_reset}
+use Rattle.jm_cmds.specs.Control.{control_kind, is_entry, is_reset}
 use Rattle.jm_cmds.specs.declared.param.Param.{Param}
 use Rattle.jm_cmds.specs.declared.selection.ParamCommand.{ParamCommand}
 use Rattle.jm_cmds.specs.declared.selection.ParamCommand.TheVariants.{Select, Enter, Unselect, Clear, Pass}
@@ -47,5 +47,5 @@ selected_param s = if s.nrpn then param_of true s.nrpn_high s.nrpn_low else para
 
 -- Control 6 or 38 of this channel
 abbrev pub is_data_entry : ℕ → Command → Bool
-is_data_entry channel (Control at number value) = at == channel && (number == 6 || number == 38)
+is_data_entry channel (Control at number value) = at == channel && is_entry number
 is_data_entry channel _ = false

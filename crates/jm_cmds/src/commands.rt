@@ -1,8 +1,8 @@
 //! The commands of MIDI 1.0.
 
 ghost use Rattle.std.specs.Prelude.{◌≡◌, ◌≤◌, length, IfOk};
-ghost use Rattle.jm_cmds.specs.Command.{spelling, status_of, IsCommand};
-ghost use Rattle.jm_cmds.specs.Spelled.{octets_of};
+ghost use Rattle.jm_cmds.specs.Command.{spelling, status_of, HasChannel, IsCommand, IsOfNote, IsOfChannel};
+ghost use Rattle.jm_cmds.specs.Spelled.{octets_of, octets_behind};
 
 use crate::numbers::{Channel, D7, D14};
 use crate::system_exclusive::Sysex;
@@ -97,71 +97,95 @@ pub enum Spelled<'a> {
     Message(&'a [u8]),
 }
 
+/// The data octets of one command, by their number.
+#[derive(Clone, Copy, Debug)]
+enum DataOctets<'a> {
+    None,
+    One(u8),
+    Two(u8, u8),
+    /// Those of a System Exclusive message.
+    Message(&'a [u8]),
+}
+
+impl<'a> DataOctets<'a> {
+    /// The whole command with this status octet, which a System Exclusive message has no choice of.
+    fn behind(self, status: u8) -> Spelled<'a>
+        ensures { octets_of result ≡ octets_behind status self.entry }
+    {
+        match self {
+            DataOctets::None => Spelled::One(status),
+            DataOctets::One(first) => Spelled::Two(status, first),
+            DataOctets::Two(first, second) => Spelled::Three(status, first, second),
+            DataOctets::Message(octets) => Spelled::Message(octets),
+        }
+    }
+}
+
 impl Command {
+    /// The octet by which the command begins.
+    pub fn status(&self) -> u8
+        ensures status { result ≡ status_of self.now }
+        ensures channel { HasChannel self.now }
+    {
+        match self {
+            Command::NoteOff { channel, .. } => 0x80 + channel.get(),
+            Command::NoteOn { channel, .. } => 0x90 + channel.get(),
+            Command::PolyPressure { channel, .. } => 0xa0 + channel.get(),
+            Command::Control { channel, .. } => 0xb0 + channel.get(),
+            Command::Program { channel, .. } => 0xc0 + channel.get(),
+            Command::Pressure { channel, .. } => 0xd0 + channel.get(),
+            Command::Wheel { channel, .. } => 0xe0 + channel.get(),
+            Command::QuarterFrame { .. } => 0xf1,
+            Command::SongPosition { .. } => 0xf2,
+            Command::SongSelect { .. } => 0xf3,
+            Command::TuneRequest => 0xf6,
+            Command::Clock => 0xf8,
+            Command::Start => 0xfa,
+            Command::Continue => 0xfb,
+            Command::Stop => 0xfc,
+            Command::ActiveSensing => 0xfe,
+            Command::SystemReset => 0xff,
+            Command::Sysex(_) => 0xf0,
+        }
+    }
+
+    /// The data octets behind the status octet.
+    fn data(&self) -> DataOctets<'_>
+        ensures octets { octets_behind (status_of self.now) result ≡ spelling self.now }
+        ensures command { HasChannel self.now → IsCommand self.now }
+    {
+        match self {
+            Command::NoteOff { note, velocity, .. } | Command::NoteOn { note, velocity, .. } => {
+                DataOctets::Two(note.get(), velocity.get())
+            }
+            Command::PolyPressure { note, value, .. } => DataOctets::Two(note.get(), value.get()),
+            Command::Control { number, value, .. } => DataOctets::Two(number.get(), value.get()),
+            Command::Wheel { first, second, .. } => DataOctets::Two(first.get(), second.get()),
+            Command::Program { program, .. } => DataOctets::One(program.get()),
+            Command::Pressure { value, .. } => DataOctets::One(value.get()),
+            Command::QuarterFrame { value } => DataOctets::One(value.get()),
+            Command::SongSelect { song } => DataOctets::One(song.get()),
+            Command::SongPosition { value } => {
+                let position = value.get();
+                DataOctets::Two((position % 128) as u8, (position / 128) as u8)
+            }
+            Command::Sysex(message) => DataOctets::Message(message.as_slice()),
+            Command::TuneRequest
+            | Command::Clock
+            | Command::Start
+            | Command::Continue
+            | Command::Stop
+            | Command::ActiveSensing
+            | Command::SystemReset => DataOctets::None,
+        }
+    }
+
     /// The octets of the command.
     pub fn spelled(&self) -> Spelled<'_>
         ensures octets { octets_of result ≡ spelling self.now }
         ensures command { IsCommand self.now }
     {
-        match self {
-            Command::NoteOff {
-                channel,
-                note,
-                velocity,
-            } => { Spelled::Three(0x80 + channel.get(), note.get(), velocity.get()) }
-            Command::NoteOn {
-                channel,
-                note,
-                velocity,
-            } => { Spelled::Three(0x90 + channel.get(), note.get(), velocity.get()) }
-            Command::PolyPressure {
-                channel,
-                note,
-                value,
-            } => { Spelled::Three(0xa0 + channel.get(), note.get(), value.get()) }
-            Command::Control {
-                channel,
-                number,
-                value,
-            } => { Spelled::Three(0xb0 + channel.get(), number.get(), value.get()) }
-            Command::Program { channel, program } => {
-                Spelled::Two(0xc0 + channel.get(), program.get())
-            }
-            Command::Pressure { channel, value } => {
-                Spelled::Two(0xd0 + channel.get(), value.get())
-            }
-            Command::Wheel {
-                channel,
-                first,
-                second,
-            } => { Spelled::Three(0xe0 + channel.get(), first.get(), second.get()) }
-            Command::QuarterFrame { value } => Spelled::Two(0xf1, value.get()),
-            Command::SongPosition { value } => {
-                let position = value.get();
-                Spelled::Three(0xf2, (position % 128) as u8, (position / 128) as u8)
-            }
-            Command::SongSelect { song } => Spelled::Two(0xf3, song.get()),
-            Command::TuneRequest => Spelled::One(0xf6),
-            Command::Clock => Spelled::One(0xf8),
-            Command::Start => Spelled::One(0xfa),
-            Command::Continue => Spelled::One(0xfb),
-            Command::Stop => Spelled::One(0xfc),
-            Command::ActiveSensing => Spelled::One(0xfe),
-            Command::SystemReset => Spelled::One(0xff),
-            Command::Sysex(message) => Spelled::Message(message.as_slice()),
-        }
-    }
-
-    /// The octet by which the command begins.
-    pub fn status(&self) -> u8
-        ensures { result ≡ status_of self.now }
-    {
-        match self.spelled() {
-            Spelled::One(status) => status,
-            Spelled::Two(status, _) => status,
-            Spelled::Three(status, _, _) => status,
-            Spelled::Message(_) => 0xf0,
-        }
+        self.data().behind(self.status())
     }
 
     /// The number of the command's octets, from 1 to 2,048.
@@ -179,78 +203,85 @@ impl Command {
         }
     }
 
+    /// An equal command, of one that speaks of one note.
+    fn copied_note(&self) -> Command
+        requires { IsOfNote self.now }
+        ensures { result ≡ self.now }
+    {
+        match *self {
+            Command::NoteOff {
+                channel,
+                note,
+                velocity,
+            } => Command::NoteOff {
+                channel,
+                note,
+                velocity,
+            },
+            Command::NoteOn {
+                channel,
+                note,
+                velocity,
+            } => Command::NoteOn {
+                channel,
+                note,
+                velocity,
+            },
+            Command::PolyPressure {
+                channel,
+                note,
+                value,
+            } => Command::PolyPressure {
+                channel,
+                note,
+                value,
+            },
+            _ => unreachable!(),
+        }
+    }
+
+    /// An equal command, of one that speaks of a whole channel.
+    fn copied_channel(&self) -> Command
+        requires { IsOfChannel self.now }
+        ensures { result ≡ self.now }
+    {
+        match *self {
+            Command::Control {
+                channel,
+                number,
+                value,
+            } => Command::Control {
+                channel,
+                number,
+                value,
+            },
+            Command::Program { channel, program } => Command::Program { channel, program },
+            Command::Pressure { channel, value } => Command::Pressure { channel, value },
+            Command::Wheel {
+                channel,
+                first,
+                second,
+            } => Command::Wheel {
+                channel,
+                first,
+                second,
+            },
+            _ => unreachable!(),
+        }
+    }
+
     /// An equal command.
     pub fn copy(&self, alloc: Global) -> Result<Command, AllocError>
         ensures { IfOk result (λ copied. copied ≡ self.now) }
     {
         Ok(match self {
-            Command::NoteOff {
-                channel,
-                note,
-                velocity,
-            } => {
-                Command::NoteOff {
-                    channel: *channel,
-                    note: *note,
-                    velocity: *velocity,
-                }
+            Command::NoteOff { .. } | Command::NoteOn { .. } | Command::PolyPressure { .. } => {
+                self.copied_note()
             }
-            Command::NoteOn {
-                channel,
-                note,
-                velocity,
-            } => {
-                Command::NoteOn {
-                    channel: *channel,
-                    note: *note,
-                    velocity: *velocity,
-                }
-            }
-            Command::PolyPressure {
-                channel,
-                note,
-                value,
-            } => {
-                Command::PolyPressure {
-                    channel: *channel,
-                    note: *note,
-                    value: *value,
-                }
-            }
-            Command::Control {
-                channel,
-                number,
-                value,
-            } => {
-                Command::Control {
-                    channel: *channel,
-                    number: *number,
-                    value: *value,
-                }
-            }
-            Command::Program { channel, program } => {
-                Command::Program {
-                    channel: *channel,
-                    program: *program,
-                }
-            }
-            Command::Pressure { channel, value } => {
-                Command::Pressure {
-                    channel: *channel,
-                    value: *value,
-                }
-            }
-            Command::Wheel {
-                channel,
-                first,
-                second,
-            } => {
-                Command::Wheel {
-                    channel: *channel,
-                    first: *first,
-                    second: *second,
-                }
-            }
+            Command::Control { .. }
+            | Command::Program { .. }
+            | Command::Pressure { .. }
+            | Command::Wheel { .. } => self.copied_channel(),
             Command::QuarterFrame { value } => Command::QuarterFrame { value: *value },
             Command::SongPosition { value } => Command::SongPosition { value: *value },
             Command::SongSelect { song } => Command::SongSelect { song: *song },

@@ -1,7 +1,7 @@
 //! Controllers by what they do, and the commands that drop what came before.
 
 ghost use Rattle.std.specs.Prelude.{◌≡◌};
-ghost use Rattle.jm_cmds.specs.Control.{control_kind, control_number, clears_notes, clears_controllers, is_reset, is_reset_message, ends_notes, ends_controllers};
+ghost use Rattle.jm_cmds.specs.Control.{control_kind, control_number, is_entry, clears_notes, clears_controllers, is_reset, is_reset_message, ends_notes, ends_controllers};
 
 use crate::commands::Command;
 use crate::numbers::{Channel, D7};
@@ -77,8 +77,18 @@ impl ControlKind {
     }
 }
 
-/// Whether these data octets are a message that turns General MIDI on: 7E, any device, 09, and 01 or 03.
-fn is_reset_message(octets: &[u8]) -> bool
+/// Whether the controller with this number, 6 or 38, sets a half of the selected parameter's value, so that
+/// Chapter M speaks of it and Chapter C doesn't (RFC 6295, A.3.4).
+#[tactic(auto, unfolding(crate::specs::Control::is_entry))]
+pub fn is_entry(number: D7) -> bool
+    ensures { result ≡ is_entry number }
+{
+    matches!(number.get(), 6 | 38)
+}
+
+/// Whether these data octets are a message that turns General MIDI on, which is a Reset State command: 7E, any device,
+/// 09, and 01 or 03.
+pub fn is_reset_message(octets: &[u8]) -> bool
     ensures { result ≡ is_reset_message octets.now }
 {
     match octets {

@@ -11,6 +11,7 @@ mod controls;
 mod frames;
 mod history;
 pub mod laws;
+mod listed;
 mod numbers;
 mod outcome;
 mod param;
@@ -20,11 +21,12 @@ mod sequencing;
 mod system_exclusive;
 
 pub use commands::{Command, Spelled};
-pub use controls::ControlKind;
+pub use controls::{ControlKind, is_entry, is_reset_message};
 pub use frames::{FrameEvent, TimePart, frame_event, time_code_after, time_code_step};
 pub use history::{
     Sent, checkpoint_history, first_place, in_order, place_of, s_of, session_history,
 };
+pub use listed::{Log, Logs};
 pub use numbers::{Channel, D7, D14};
 pub use outcome::ReadError;
 pub use param::Param;

@@ -1,6 +1,6 @@
 //! Reading one command.
 
-ghost use Rattle.std.specs.Prelude.{◌≡◌, ◌-◌, ◌<◌, ◌≤◌, drop, take, length};
+ghost use Rattle.std.specs.Prelude.{◌≡◌, ◌-◌, ◌<◌, ◌≤◌, ◌⊎◌, drop, take, length};
 ghost use Rattle.jm_cmds.specs.Gives.{Gives};
 ghost use Rattle.jm_cmds.specs.Reading.{command_read, one_data, two_data, channel_read, system_read, message_read};
 
@@ -56,74 +56,75 @@ fn two(rest: &[u8]) -> Result<(D7, D7), CmdFault>
     Ok((first, second))
 }
 
+/// A channel command with one data octet, whose status octet is from 0xC0 to 0xDF.
+fn one_octet_command(status: u8, rest: &[u8]) -> Result<(Command, usize), CmdFault>
+    requires from { 192 ≤ status }
+    requires below { status < 224 }
+    ensures { result ≡ channel_read status rest.now }
+{
+    let channel = Channel::low(status);
+    let value = one(rest, 1)?;
+    if status < 0xd0 {
+        return Ok((
+            Command::Program {
+                channel,
+                program: value,
+            },
+            2,
+        ));
+    }
+    Ok((Command::Pressure { channel, value }, 2))
+}
+
+/// A channel command with two data octets, whose status octet is from 0x80 to 0xBF or from 0xE0 to 0xEF.
+fn two_octet_command(status: u8, rest: &[u8]) -> Result<(Command, usize), CmdFault>
+    requires from { 128 ≤ status }
+    requires kind { status < 192 ⊎ 224 ≤ status }
+    requires below { status < 240 }
+    ensures { result ≡ channel_read status rest.now }
+{
+    let channel = Channel::low(status);
+    let (first, second) = two(rest)?;
+    let command = match status {
+        ..=0x8f => Command::NoteOff {
+            channel,
+            note: first,
+            velocity: second,
+        },
+        ..=0x9f => Command::NoteOn {
+            channel,
+            note: first,
+            velocity: second,
+        },
+        ..=0xaf => Command::PolyPressure {
+            channel,
+            note: first,
+            value: second,
+        },
+        ..=0xbf => Command::Control {
+            channel,
+            number: first,
+            value: second,
+        },
+        _ => Command::Wheel {
+            channel,
+            first,
+            second,
+        },
+    };
+    Ok((command, 3))
+}
+
 /// A channel command, whose status octet is from 0x80 to 0xEF.
 fn channel_command(status: u8, rest: &[u8]) -> Result<(Command, usize), CmdFault>
     requires from { 128 ≤ status }
     requires below { status < 240 }
     ensures { result ≡ channel_read status rest.now }
 {
-    let channel = Channel::low(status);
-    if status < 0x90 {
-        let (note, velocity) = two(rest)?;
-        return Ok((
-            Command::NoteOff {
-                channel,
-                note,
-                velocity,
-            },
-            3,
-        ));
+    match status {
+        0xc0..=0xdf => one_octet_command(status, rest),
+        _ => two_octet_command(status, rest),
     }
-    if status < 0xa0 {
-        let (note, velocity) = two(rest)?;
-        return Ok((
-            Command::NoteOn {
-                channel,
-                note,
-                velocity,
-            },
-            3,
-        ));
-    }
-    if status < 0xb0 {
-        let (note, value) = two(rest)?;
-        return Ok((
-            Command::PolyPressure {
-                channel,
-                note,
-                value,
-            },
-            3,
-        ));
-    }
-    if status < 0xc0 {
-        let (number, value) = two(rest)?;
-        return Ok((
-            Command::Control {
-                channel,
-                number,
-                value,
-            },
-            3,
-        ));
-    }
-    if status < 0xd0 {
-        let program = one(rest, 1)?;
-        return Ok((Command::Program { channel, program }, 2));
-    }
-    if status < 0xe0 {
-        let value = one(rest, 1)?;
-        return Ok((Command::Pressure { channel, value }, 2));
-    }
-    let (first, second) = two(rest)?;
-    Ok((
-        Command::Wheel {
-            channel,
-            first,
-            second,
-        },
-        3,
-    ))
 }
 
 /// A system command other than System Exclusive, whose status octet is from 0xF1 on.

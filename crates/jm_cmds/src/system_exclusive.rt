@@ -2,7 +2,7 @@
 
 ghost use Rattle.std.specs.Prelude.{◌≡◌, ◌==◌, ◌≤◌, length, IfOk};
 ghost use Rattle.jm_cmds.specs.Data.{IsSysex, data_len};
-ghost use Rattle.jm_cmds.specs.SysexMade.{sysex_made};
+ghost use Rattle.jm_cmds.specs.SysexMade.{sysex_made, unmarked};
 ghost use Rattle.jm_cmds.specs.Gives.{Gives};
 
 use crate::outcome::ReadError;
@@ -81,6 +81,17 @@ impl Sysex {
     {
         Ok(Sysex {
             octets: Vec::from_slice(alloc, octets)?,
+        })
+    }
+
+    /// A message of the low seven bits of each of these octets, at most 2,046. A list of data octets whose last one
+    /// is marked by its high bit (RFC 6295, B.5.1) gives its message.
+    pub fn of_marked(octets: &[u8], alloc: Global) -> Result<Sysex, AllocError>
+        requires { length octets.now ≤ 2046 }
+        ensures { IfOk result (λ message. message ≡ unmarked octets.now) }
+    {
+        Ok(Sysex {
+            octets: octets.iter().map(|octet| *octet % 128).collect(alloc)?,
         })
     }
 

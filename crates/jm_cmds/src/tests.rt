@@ -57,3 +57,12 @@ fn a_message_of_2047_data_octets_is_too_long(rt: HostRuntime) -> Result<(), Fail
     assert_eq!(rt; fault, Some(SysexFault::TooLong { len: 2047 }));
     Ok(())
 }
+
+#[test]
+fn marked_octets_give_their_message(rt: HostRuntime) -> Result<(), Fail> {
+    let marked = Sysex::of_marked(&[0x7e, 0x7f, 9, 0x81], rt.alloc())?;
+    assert_eq!(rt; marked, Sysex::new(&[0x7e, 0x7f, 9, 1], rt.alloc())?);
+    let empty = Sysex::of_marked(&[], rt.alloc())?;
+    assert_eq!(rt; empty.len(), 0);
+    Ok(())
+}

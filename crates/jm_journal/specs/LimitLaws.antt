@@ -6,7 +6,7 @@ use Rattle.jm_cmds.specs.Keys.{none_some}
 use Rattle.jm_cmds.specs.declared.commands.Command.{Command}
 use Rattle.jm_cmds.specs.declared.commands.Command.TheVariants.{Control, PolyPressure, Sysex, SystemReset}
 use Rattle.jm_cmds.specs.declared.history.Sent.{Sent}
-use Rattle.jm_cmds.specs.Control.{is_reset, is_reset_message, ends_controllers}
+use Rattle.jm_cmds.specs.Control.{is_entry, is_reset, is_reset_message, ends_controllers}
 use Rattle.jm_cmds.specs.Selection.{is_data_entry}
 use Rattle.ch_param.specs.ChapterM.{param_count, has_param, selected}
 use Rattle.ch_param.specs.Limits.{param_count-push, param_count-other, param_count-unselected, param_count-met, param_count-later, param_count-none}
@@ -21,7 +21,7 @@ use Rattle.ch_sysex.specs.ChapterX.{sysex_logs, sysex_octets}
 use Rattle.ch_sysex.specs.Limits.{sysex_logs-kept, sysex_octets-kept, sysex_logs-other, sysex_octets-other, sysex_logs-reset-le, sysex_octets-reset-le, sysex_logs-later, sysex_octets-later}
 use Rattle.jm_journal.specs.declared.fits.Fit.{Fit}
 use Rattle.jm_journal.specs.declared.fits.Fit.TheVariants.{Yes, ParamsFull, PolyFull, SysexFull}
-use Rattle.jm_journal.specs.Limits.{KeepsLimits, is_entry, entry_fit, control_fit, poly_fit, sysex_fit, fit_of, told}
+use Rattle.jm_journal.specs.Limits.{KeepsLimits, entry_fit, control_fit, poly_fit, sysex_fit, fit_of, told}
 
 -- a test came out true where all but one answer is Yes
 yes_came : (test : Bool) (other : Fit) → (other ≡ Yes → ⊥) → (if test then Yes else other) ≡ Yes → test ≡ true
@@ -52,7 +52,7 @@ record IsEntry (channel : ℕ) (command : Command) : Type 0 where
 
 entry_is : (channel : ℕ) (command : Command) → is_data_entry channel command ≡ true → IsEntry channel command
 entry_is channel (Control at number value) h =
-    let both = both_true (at == channel) (number == 6 || number == 38) h in
+    let both = both_true (at == channel) (is_entry number) h in
     let same : at ≡ channel = eqb-true at channel both.0 in
     record { number = number; value = value; is = ap (λ (c : ℕ). Control c number value) same; entry = both.1 }
 entry_is channel command h = cc

@@ -1,9 +1,9 @@
 -- Which command fits: the limits of Chapters M, A and X over the commands from a checkpoint on.
-use Rattle.std.specs.Prelude.{ℕ, ◌+◌, ◌-◌, ◌^◌, ◌≤◌, ◌<◌, min, Bool, ◌||◌, ◌&&◌, List, Option, Some, None, length, nat_le, nat_lt, ◌==◌, if◌then◌else◌}
+use Rattle.std.specs.Prelude.{ℕ, ◌+◌, ◌-◌, ◌^◌, ◌≤◌, ◌<◌, min, Bool, ◌||◌, ◌&&◌, List, Option, Some, None, length, nat_le, nat_lt, if◌then◌else◌}
 use Rattle.jm_cmds.specs.declared.commands.Command.{Command}
 use Rattle.jm_cmds.specs.declared.commands.Command.TheVariants.{Control, PolyPressure, Sysex}
 use Rattle.jm_cmds.specs.declared.history.Sent.{Sent}
-use Rattle.jm_cmds.specs.Control.{is_reset_message}
+use Rattle.jm_cmds.specs.Control.{is_entry, is_reset_message}
 use Rattle.ch_param.specs.ChapterM.{param_count, has_param, selected}
 use Rattle.ch_notes.specs.ChapterA.{poly_count, has_poly}
 use Rattle.ch_sysex.specs.ChapterX.{sysex_logs, sysex_octets}
@@ -17,10 +17,6 @@ pub record KeepsLimits (from : ℕ) (sent : List Sent) : Type 0 where
   pub notes : (channel : ℕ) → channel < 16 → poly_count channel from sent ≤ 64
   pub logs : sysex_logs from sent ≤ 128
   pub octets : sysex_octets from sent ≤ 1000
-
--- a half of the selected parameter's value
-abbrev pub is_entry : ℕ → Bool
-is_entry number = number == 6 || number == 38
 
 -- a value of the selected parameter fits where that parameter is coded, or fewer than 16 are
 abbrev pub entry_fit : ℕ → ℕ → List Sent → Option (Bool × ℕ × ℕ) → Fit

@@ -5,12 +5,12 @@ ghost use Rattle.jm_cmds.specs.History.{InOrder};
 ghost use Rattle.jm_cmds.specs.Sent.{packet_of};
 ghost use Rattle.jm_cmds.specs.Control.{is_reset_message};
 ghost use Rattle.ch_param.specs.ChapterM.{selected};
-ghost use Rattle.jm_journal.specs.Limits.{is_entry, entry_fit, control_fit, poly_fit, sysex_fit, fit_of, told};
+ghost use Rattle.jm_journal.specs.Limits.{entry_fit, control_fit, poly_fit, sysex_fit, fit_of, told};
 
 use ch_notes::a;
 use ch_param::m;
 use ch_sysex::x;
-use jm_cmds::{Channel, Command, D7, Sent, Sysex};
+use jm_cmds::{Channel, Command, D7, Sent, Sysex, is_entry};
 
 /// How many parameters of a channel Chapter M codes.
 const MOST_PARAMS: usize = 16;
@@ -38,13 +38,6 @@ pub enum Fit {
     PolyFull { channel: Channel, kept: usize },
     /// It is a SysEx, and Chapter X has so many logs and octets that this one's log passes its limits.
     SysexFull { logs: usize, octets: usize },
-}
-
-/// Whether a controller's number is that of a half of the selected parameter's value.
-fn is_entry(number: D7) -> bool
-    ensures { result ≡ is_entry number }
-{
-    number.get() == 6 || number.get() == 38
 }
 
 /// Whether a value of the channel's selected parameter fits.

@@ -5,7 +5,7 @@ use Rattle.jm_cmds.specs.declared.history.Sent.{Sent}
 use Rattle.jm_cmds.specs.History.{standing}
 use Rattle.jm_cmds.specs.Sent.{is_fresh}
 use Rattle.ch_notes.specs.PolyEvent.{poly_at, poly_ends, is_pressed, ArePresses}
-use Rattle.ch_notes.specs.ListedLaws.{is_counted, counted_place, fresh_place, one_counted}
+use Rattle.jm_cmds.specs.ListedLaws.{is_counted, counted_place, fresh_place, one_counted}
 use Rattle.ch_notes.specs.ChapterA.{some_fresh}
 use Rattle.ch_notes.specs.PressLaws.{ArePresses-standing, pressed-standing, pressed-keys, presses-few-standing}
 use Rattle.ch_notes.proofs.a.logs_among.Goals as goal

@@ -2,8 +2,8 @@ use Rattle.std.proofs.Common.{refl, ap, sym, ◌∙◌, length, arith}
 use Rattle.jm_cmds.specs.History.{standing, below}
 use Rattle.jm_cmds.specs.Sent.{packet_of}
 use Rattle.ch_notes.specs.PolyEvent.{poly_ends}
-use Rattle.ch_notes.specs.Listed.{listed_len}
-use Rattle.ch_notes.specs.ListedLaws.{length-listed}
+use Rattle.jm_cmds.specs.Listed.{listed_len}
+use Rattle.jm_cmds.specs.ListedLaws.{length-listed}
 use Rattle.ch_notes.specs.ChapterA.{press_at}
 use Rattle.ch_notes.specs.PressLaws.{chapter_a-standing, logs-keys, poly_count-standing}
 use Rattle.ch_notes.proofs.a.plain_len.Goals as goal

@@ -3,7 +3,7 @@ use Rattle.jm_wire.specs.Octets.{Appends, joined, unchanged}
 use Rattle.jm_cmds.specs.History.{standing}
 use Rattle.jm_cmds.specs.Sent.{s_of}
 use Rattle.ch_notes.specs.PolyEvent.{poly_ends}
-use Rattle.ch_notes.specs.ListedLaws.{listed-none, listed-some}
+use Rattle.jm_cmds.specs.ListedLaws.{listed-none, listed-some}
 use Rattle.ch_notes.specs.ChapterA.{press_at}
 use Rattle.ch_notes.specs.PressLaws.{chapter_a-standing, logs-keys, logs-fresh}
 use Rattle.ch_notes.proofs.a.plain_write.Goals as goal

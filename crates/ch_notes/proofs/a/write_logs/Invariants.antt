@@ -2,7 +2,7 @@ use Rattle.std.proofs.Common.{length}
 use Rattle.jm_wire.specs.Octets.{Owes}
 use Rattle.jm_cmds.specs.History.{standing}
 use Rattle.ch_notes.specs.PolyEvent.{poly_ends}
-use Rattle.ch_notes.specs.Listed.{texts}
+use Rattle.jm_cmds.specs.Listed.{texts}
 use Rattle.ch_notes.specs.ChapterA.{press_at}
 use Rattle.ch_notes.proofs.a.write_logs.Given as goal
 

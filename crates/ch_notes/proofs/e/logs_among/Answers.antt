@@ -6,8 +6,8 @@ use Rattle.jm_cmds.specs.History.{standing}
 use Rattle.jm_cmds.specs.Sent.{is_fresh}
 use Rattle.ch_notes.specs.NoteEvent.{note_ends, AreWithin}
 use Rattle.ch_notes.specs.ShapeLaws.{AreWithin-standing}
-use Rattle.ch_notes.specs.Listed.{count_logs, has_fresh}
-use Rattle.ch_notes.specs.ListedLaws.{is_counted, counted_place, fresh_place, one_counted, counted-log}
+use Rattle.jm_cmds.specs.Listed.{count_logs, has_fresh}
+use Rattle.jm_cmds.specs.ListedLaws.{is_counted, counted_place, fresh_place, one_counted, counted-log}
 use Rattle.ch_notes.specs.ChapterE.{extra_at}
 use Rattle.ch_notes.specs.ExtraLaws.{extra-few-standing}
 use Rattle.ch_notes.proofs.e.logs_among.Goals as goal

@@ -1,7 +1,7 @@
 use Rattle.std.proofs.Common.{◌≡◌, ◌+◌, ◌≤◌, ◌||◌, length}
 use Rattle.jm_cmds.specs.History.{standing}
 use Rattle.ch_notes.specs.NoteEvent.{note_ends, AreWithin}
-use Rattle.ch_notes.specs.Listed.{count_logs, has_fresh}
+use Rattle.jm_cmds.specs.Listed.{count_logs, has_fresh}
 use Rattle.ch_notes.specs.ChapterE.{extra_at}
 use Rattle.ch_notes.proofs.e.logs_among.Given as goal
 

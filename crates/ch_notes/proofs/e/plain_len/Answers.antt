@@ -1,8 +1,8 @@
 use Rattle.std.proofs.Common.{ap, sym, ◌∙◌, length}
 use Rattle.jm_cmds.specs.History.{standing}
 use Rattle.ch_notes.specs.NoteEvent.{note_ends}
-use Rattle.ch_notes.specs.Listed.{listed_len}
-use Rattle.ch_notes.specs.ListedLaws.{length-listed}
+use Rattle.jm_cmds.specs.Listed.{listed_len}
+use Rattle.jm_cmds.specs.ListedLaws.{length-listed}
 use Rattle.ch_notes.specs.ChapterE.{extra_at}
 use Rattle.ch_notes.specs.ExtraLaws.{chapter_e-standing}
 use Rattle.ch_notes.proofs.e.plain_len.Goals as goal

@@ -2,8 +2,8 @@ use Rattle.std.proofs.Common.{◌++◌, List, ℕ, subst}
 use Rattle.jm_wire.specs.Octets.{Owes, owes_less}
 use Rattle.jm_cmds.specs.History.{standing}
 use Rattle.ch_notes.specs.NoteEvent.{note_ends}
-use Rattle.ch_notes.specs.Listed.{texts, log_text}
-use Rattle.ch_notes.specs.ListedLaws.{text_place}
+use Rattle.jm_cmds.specs.Listed.{texts, log_text}
+use Rattle.jm_cmds.specs.ListedLaws.{text_place}
 use Rattle.ch_notes.specs.ChapterE.{extra_at}
 use Rattle.ch_notes.proofs.e.write_logs.Goals as goal
 

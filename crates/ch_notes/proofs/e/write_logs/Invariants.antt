@@ -2,7 +2,7 @@ use Rattle.std.proofs.Common.{length}
 use Rattle.jm_wire.specs.Octets.{Owes}
 use Rattle.jm_cmds.specs.History.{standing}
 use Rattle.ch_notes.specs.NoteEvent.{note_ends}
-use Rattle.ch_notes.specs.Listed.{texts}
+use Rattle.jm_cmds.specs.Listed.{texts}
 use Rattle.ch_notes.specs.ChapterE.{extra_at}
 use Rattle.ch_notes.proofs.e.write_logs.Given as goal
 

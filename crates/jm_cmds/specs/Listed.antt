@@ -1,16 +1,16 @@
--- Chapters that are a list of logs of two octets, behind a header with their number (RFC 6295, A.7,
--- Figures A.7.1 and A.7.2, and A.9, Figures A.9.1 and A.9.2).
+-- Chapters that are a list of logs of two octets, behind a header with their number (RFC 6295, A.3, Figures
+-- A.3.1 to A.3.3, A.7, Figures A.7.1 and A.7.2, and A.9, Figures A.9.1 and A.9.2).
 use Rattle.std.specs.Prelude.{ℕ, ◌+◌, ◌-◌, ◌*◌, Bool, false, ◌&&◌, Option, Some, None, List, [], ◌∷◌, count_by, nat_lt, ◌||◌, ◌==◌, if◌then◌else◌}
 use Rattle.std.specs.List.{list_any, flat_map}
 use Rattle.std.specs.Option.{is_some}
 use Rattle.jm_cmds.specs.declared.history.Sent.{Sent}
 use Rattle.jm_cmds.specs.Sent.{is_fresh, s_of, s_bit}
-use Rattle.ch_notes.specs.declared.listed.Log.{Log}
+use Rattle.jm_cmds.specs.declared.listed.Log.{Log}
 
--- S and the note, and the octet behind it
+-- S and the number, and the octet behind it
 abbrev pub log_text : ℕ → Option Log → List ℕ
 log_text s None = []
-log_text s (Some log) = (s + log.note) ∷ log.field ∷ []
+log_text s (Some log) = (s + log.number) ∷ log.field ∷ []
 
 -- the logs of these places, in their order
 abbrev pub texts : (Sent → Option Log) → ℕ → List Sent → List ℕ
@@ -39,8 +39,8 @@ listed log_at packet places = with_header (count_logs log_at places) (has_fresh 
 -- whether the S bit of one of these logs is 0
 abbrev pub some_clear : List ℕ → Bool
 some_clear [] = false
-some_clear (note ∷ []) = false
-some_clear (note ∷ field ∷ logs) = nat_lt note 128 || some_clear logs
+some_clear (number ∷ []) = false
+some_clear (number ∷ field ∷ logs) = nat_lt number 128 || some_clear logs
 
 abbrev pub log_shows_fresh : List ℕ → Bool
 log_shows_fresh [] = false

@@ -3,6 +3,7 @@ use Rattle.std.proofs.Common.{◌≡◌, ℕ, zero, suc, ◌+◌, ◌*◌, ◌-�
 use Rattle.std.specs.Prelude.{count_by}
 use Rattle.std.specs.List.{list_any, flat_map, AllByRecursion}
 use Rattle.std.specs.Option.{is_some}
+use Rattle.std.proofs.Math.Bool.{or_assoc}
 use Rattle.std.proofs.lemmas.Bool.{cases_Bool, ne_eqb, lt-ltb, le-ltb}
 use Rattle.std.proofs.lemmas.List.Sums.{sum_by-cons}
 use Rattle.jm_cmds.specs.Sent.{shows_fresh as header_shows_fresh}
@@ -10,8 +11,8 @@ use Rattle.jm_cmds.specs.declared.history.Sent.{Sent}
 use Rattle.jm_cmds.specs.History.{standing}
 use Rattle.jm_cmds.specs.HistoryLaws.{flat_map-standing}
 use Rattle.jm_cmds.specs.Sent.{is_fresh, s_of, s_bit}
-use Rattle.ch_notes.specs.declared.listed.Log.{Log}
-use Rattle.ch_notes.specs.Listed.{log_text, texts, count_logs, has_fresh, with_header, listed_len, listed, some_clear, log_shows_fresh}
+use Rattle.jm_cmds.specs.declared.listed.Log.{Log}
+use Rattle.jm_cmds.specs.Listed.{log_text, texts, count_logs, has_fresh, with_header, listed_len, listed, some_clear, log_shows_fresh}
 
 -- ## Counting
 
@@ -32,10 +33,6 @@ counted_place ends test count count' whole place rest later h r n =
       | inl t ↦ rw t (omega arith)
       | inr f ↦ rw f (sum_by-cons (λ p. cond (test p) 1 0) place (standing ends later))
     ]
-
-or_assoc : (a b c : Bool) → ((a || b) || c) ≡ (a || (b || c))
-or_assoc true b c = refl
-or_assoc false b c = refl
 
 -- One more place of a loop that looks for one of the packet before.
 pub fresh_place : (ends : Sent → Sent → Bool) (test : Sent → Bool) (packet : ℕ) (fresh fresh' whole : Bool) (place : Sent) (rest later : List Sent) →
@@ -126,10 +123,10 @@ listed-some log_at packet count fresh places n f l =
 
 -- ## What the octets show
 
--- the note of the log is a note
+-- the number of the log has seven bits
 abbrev pub FitsLog : Option Log → Type 0
 FitsLog None = Unit {0}
-FitsLog (Some log) = log.note < 128
+FitsLog (Some log) = log.number < 128
 
 s-shows : (fresh : Bool) (number : ℕ) → number < 128 → ltb (s_of fresh + number) 128 ≡ fresh
 s-shows true number l = lt-ltb (0 + number) 128 (omega arith)
@@ -138,7 +135,7 @@ s-shows false number l = le-ltb (128 + number) 128 (omega arith)
 step-clear : (packet : ℕ) (place : Sent) (log : Option Log) (rest : List ℕ) → FitsLog log →
     some_clear (log_text (s_bit packet place) log ++ rest) ≡ ((is_some log && is_fresh packet place) || some_clear rest)
 step-clear packet place None rest w = refl
-step-clear packet place (Some log) rest w = ap (λ (b : Bool). b || some_clear rest) (s-shows (is_fresh packet place) log.note w)
+step-clear packet place (Some log) rest w = ap (λ (b : Bool). b || some_clear rest) (s-shows (is_fresh packet place) log.number w)
 
 clear-texts : (log_at : Sent → Option Log) (packet : ℕ) (places : List Sent) → AllByRecursion (λ place. FitsLog (log_at place)) places →
     some_clear (texts log_at packet places) ≡ has_fresh log_at packet places
