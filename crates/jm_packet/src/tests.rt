@@ -1,0 +1,66 @@
+//! Reading packets by their octets.
+
+use crate::{PacketFault, read_packet};
+use jm_cmds::ReadError;
+use jm_section::SectionFault;
+use std::alloc::Global;
+use std::test::Fail;
+
+/// The fault of these octets.
+fn fault_of(octets: &[u8], alloc: Global) -> Option<PacketFault> {
+    match read_packet(octets, alloc) {
+        Err(ReadError::Fault(fault)) => Some(fault),
+        _ => None,
+    }
+}
+
+#[test]
+fn a_packet_is_read(rt: HostRuntime) -> Result<(), Fail> {
+    let octets = [
+        0x80, 0x61, 0, 1, 0, 0, 0, 200, 0x11, 0x22, 0x33, 0x44, 0x40, 0xa0, 0, 0,
+    ];
+    let packet = read_packet(&octets, rt.alloc())?;
+    assert_eq!(rt; packet.number, 1);
+    assert_eq!(rt; packet.tick, 200);
+    assert_eq!(rt; packet.ssrc, 0x1122_3344);
+    assert_eq!(rt; packet.section.items.len(), 0);
+    assert_eq!(rt; packet.journal, Some(13));
+    Ok(())
+}
+
+#[test]
+fn sources_are_skipped(rt: HostRuntime) -> Result<(), Fail> {
+    let octets = [
+        0x81, 0xff, 0, 1, 0, 0, 0, 200, 0x11, 0x22, 0x33, 0x44, 9, 9, 9, 9, 0x03, 0x90, 0x3c, 0x64,
+    ];
+    let packet = read_packet(&octets, rt.alloc())?;
+    assert_eq!(rt; packet.section.items.len(), 1);
+    assert_eq!(rt; packet.journal, None);
+    assert_eq!(rt;
+        fault_of(&octets[..15], rt.alloc()),
+        Some(PacketFault::Short)
+    );
+    Ok(())
+}
+
+#[test]
+fn the_first_fault_is_told(rt: HostRuntime) -> Result<(), Fail> {
+    let alloc = rt.alloc();
+    let mut octets = [0x70u8, 95, 0, 1, 0, 0, 0, 2, 0, 0, 0, 3];
+    assert_eq!(rt; fault_of(&octets[..11], alloc), Some(PacketFault::Short));
+    assert_eq!(rt; fault_of(&octets, alloc), Some(PacketFault::Version));
+    octets[0] = 0xb1;
+    assert_eq!(rt; fault_of(&octets, alloc), Some(PacketFault::Padding));
+    octets[0] = 0x91;
+    assert_eq!(rt; fault_of(&octets, alloc), Some(PacketFault::Extension));
+    octets[0] = 0x81;
+    assert_eq!(rt; fault_of(&octets, alloc), Some(PacketFault::PayloadType));
+    octets[1] = 96;
+    assert_eq!(rt; fault_of(&octets, alloc), Some(PacketFault::Short));
+    octets[0] = 0x80;
+    assert_eq!(rt;
+        fault_of(&octets, alloc),
+        Some(PacketFault::Section(SectionFault::Short))
+    );
+    Ok(())
+}
