@@ -1,0 +1,100 @@
+-- What the logs of a journal do to a state that missed packets.
+use Rattle.std.specs.Prelude.{ℕ, ◌+◌, ◌-◌, ◌%◌, Bool, true, false, not, ◌&&◌, ◌||◌, List, Option, Some, None, fold, nat_le, if◌then◌else◌}
+use Rattle.std.specs.List.{list_any}
+use Rattle.jm_cmds.specs.declared.commands.Command.{Command}
+use Rattle.jm_cmds.specs.Control.{is_reset_message}
+use Rattle.jm_reader.specs.declared.logs.Log.{Log}
+use Rattle.jm_reader.specs.declared.logs.LogKind.{LogKind}
+use Rattle.jm_reader.specs.declared.logs.LogKind.TheVariants.{Reset, Song, Sequencer, TimeCode, Sysex, Program, Param}
+use Rattle.jm_state.specs.declared.state.State.{State}
+use Rattle.jm_state.specs.Parts.{no_state, with_song, with_sequencer, with_time_code, with_sysex_count, with_program, with_param_high, with_param_low}
+use Rattle.jm_state.specs.Apply.{applied}
+use Rattle.jm_receiver.specs.declared.group.Group.{Group}
+use Rattle.jm_receiver.specs.Group.{is_of, command_of, all_groups, all_channels}
+
+-- ## The whole session
+
+-- A log of a System Reset, or of a message that is a Reset State command.
+abbrev pub is_reset_log : LogKind → Bool
+is_reset_log (Reset count) = true
+is_reset_log (Sysex count octets) = is_reset_message octets
+is_reset_log _ = false
+
+abbrev pub has_reset : List Log → Bool
+has_reset logs = list_any (λ log. is_reset_log log.what) logs
+
+-- where a reset is in the list all parts are absent
+abbrev pub cleared : List Log → State → State
+cleared logs s = if has_reset logs then no_state else s
+
+-- so far is one number before another, modulo 256
+abbrev pub distance : (before count : ℕ) → ℕ
+distance before count = (count + 256 - before) % 256
+
+abbrev pub is_ahead : (before count : ℕ) → Bool
+is_ahead before count = nat_le 1 (distance before count) && nat_le (distance before count) 128
+
+-- The log has a message that is still to be counted: where a reset is in the list each, else one whose number is 1 to
+-- 128 behind the number that the state has.
+abbrev pub counts : (reset : Bool) → (before : ℕ) → LogKind → Bool
+counts reset before (Sysex count octets) = not (is_reset_message octets) && (reset || is_ahead before count)
+counts reset before _ = false
+
+abbrev pub message_told : (reset : Bool) → (before : ℕ) → State → Log → State
+message_told reset before s log =
+    if counts reset before log.what then with_sysex_count s ((s.sysex_count + 1) % 256) else s
+
+abbrev pub messages_repaired : List Log → State → State
+messages_repaired logs s = fold (message_told (has_reset logs) s.sysex_count) s logs
+
+-- A song position has 19 bits, and the type of a quarter frame three.
+abbrev pub session_told : State → LogKind → State
+session_told s (Song song) = with_song s (Some song)
+session_told s (Sequencer running downbeat position) =
+    with_sequencer s (Some (record { running = running; downbeat = downbeat; position = position % 524288 }))
+session_told s (TimeCode complete partial backward point) =
+    with_time_code s (Some (record { complete = complete; partial = partial; backward = backward; point = point % 8 }))
+session_told s _ = s
+
+abbrev pub session_repaired : List Log → State → State
+session_repaired logs s = fold (λ s log. session_told s log.what) s logs
+
+-- ## A channel
+
+-- the state behind a command, if there is one
+abbrev pub applied_if : State → Option Command → State
+applied_if s None = s
+applied_if s (Some command) = applied s command
+
+-- The halves that a log has are entered. The selection stays.
+abbrev pub high_entered : State → ℕ → Bool → (high low : ℕ) → Option ℕ → State
+high_entered s channel nrpn high low None = s
+high_entered s channel nrpn high low (Some value) = with_param_high s channel nrpn high low (Some value)
+
+abbrev pub low_entered : State → ℕ → Bool → (high low : ℕ) → Option ℕ → State
+low_entered s channel nrpn high low None = s
+low_entered s channel nrpn high low (Some value) = with_param_low s channel nrpn high low (Some value)
+
+-- what the log of a channel does to the state
+abbrev pub channel_told : State → LogKind → State
+channel_told s (Program channel program bank) = with_program s channel (Some (record { program = program; bank = bank }))
+channel_told s (Param channel nrpn high low entry_high entry_low) =
+    low_entered (high_entered s channel nrpn high low entry_high) channel nrpn high low entry_low
+channel_told s log = applied_if s (command_of log)
+
+-- the state behind a log, where it is of this group and channel
+abbrev pub group_told : Group → ℕ → State → Log → State
+group_told group channel s log = if is_of group channel log.what then channel_told s log.what else s
+
+-- each group of a channel by itself, for laws
+unfoldable pub group_repaired : List Log → ℕ → State → Group → State
+group_repaired logs channel s group = fold (group_told group channel) s logs
+
+unfoldable pub channel_repaired : List Log → State → ℕ → State
+channel_repaired logs s channel = fold (group_repaired logs channel) s all_groups
+
+-- ## All
+
+-- the state after repair by these logs
+unfoldable pub repaired : State → List Log → State
+repaired s logs = fold (channel_repaired logs) (session_repaired logs (messages_repaired logs (cleared logs s))) all_channels

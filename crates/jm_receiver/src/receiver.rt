@@ -1,0 +1,151 @@
+//! The receiver.
+
+ghost use Rattle.std.specs.Prelude.{◌≡◌, None, IfOk, OnErr};
+ghost use Rattle.jm_state.specs.Parts.{no_state};
+ghost use Rattle.jm_receiver.specs.Accept.{contents, mended_by, mended, heard_in, accepted, Accepts};
+
+use crate::heard::{HeardList, Hearing};
+use crate::opening::{AcceptFault, Opened, open};
+use crate::place::{Uses, find_place};
+use crate::repair::repair;
+use jm_cmds::ReadError;
+use jm_reader::{Log, Logs};
+use jm_state::State;
+use std::alloc::{AllocError, Global};
+use std::marker::Model;
+
+/// What a receiver took from a packet.
+#[derive(Debug, Drop)]
+pub struct Took {
+    /// The packet's number, of which the packet has the low 16 bits.
+    pub number: u64,
+    /// How many packets were missed before it. 0 for the first packet.
+    pub gap: u64,
+    /// The commands that repair hands on, and then those of the packet's section.
+    pub heard: HeardList,
+}
+
+/// A receiver of one stream of a session. Contracts see it as a record: whose stream it takes, the number of the last packet
+/// that it took and its state.
+#[derive(Debug, Drop)]
+pub struct Receiver {
+    alloc: Global,
+    ssrc: u32,
+    last: Option<u64>,
+    state: State,
+}
+
+impl Model for Receiver {
+    ghost use Rattle.jm_receiver.specs.Receiver.{Received};
+
+    ghost Value = { Received };
+
+    ghost view = { λ r. record { ssrc = r.ssrc; last = r.last; state = r.state } };
+}
+
+impl Hearing {
+    /// The state is repaired by these logs, and what repair hands on is heard.
+    fn mend_by(&mut self, logs: &[Log], alloc: Global) -> Result<(), AllocError>
+        ensures { IfOk result (λ _. self.new ≡ mended_by logs.now self.old) }
+    {
+        let mut repaired = self.state.copy();
+        repair(&mut repaired, logs);
+        self.tell(logs, &repaired, alloc)?;
+        self.state = repaired;
+        Ok(())
+    }
+
+    /// The state is repaired by what is used of these logs.
+    fn mend(&mut self, uses: Uses, mut logs: Logs, alloc: Global) -> Result<(), AllocError>
+        ensures { IfOk result (λ _. self.new ≡ mended uses logs self.old) }
+    {
+        match uses {
+            Uses::Nothing => Ok(()),
+            Uses::Fresh => {
+                logs.keep_fresh();
+                self.mend_by(logs.as_slice(), alloc)
+            }
+            Uses::All => self.mend_by(logs.as_slice(), alloc),
+        }
+    }
+}
+
+impl Receiver {
+    /// A receiver of the stream of this source. It has taken no packet, and all parts of its state are absent.
+    pub fn new(ssrc: u32, alloc: Global) -> Result<Receiver, AllocError>
+        ensures { IfOk result (λ r. r ≡ record { ssrc = ssrc; last = None; state = no_state }) }
+    {
+        Ok(Receiver {
+            alloc,
+            ssrc,
+            last: None,
+            state: State::new(),
+        })
+    }
+
+    /// The state behind the last packet that was taken.
+    pub fn state(&self) -> &State
+        ensures { result.now ≡ self.now.state }
+    {
+        &self.state
+    }
+
+    /// The number of the last packet that was taken, if one was.
+    pub fn last(&self) -> Option<u64>
+        ensures { result ≡ self.now.last }
+    {
+        self.last
+    }
+
+    /// Whose stream it takes.
+    pub fn ssrc(&self) -> u32
+        ensures { result ≡ self.now.ssrc }
+    {
+        self.ssrc
+    }
+
+    /// The state behind a packet, and what is heard of it.
+    fn hear(&self, opened: Opened, uses: Uses) -> Result<Hearing, AllocError>
+        ensures { IfOk result (λ h. h ≡ heard_in self.now (contents opened) uses) }
+    {
+        let mut hearing = Hearing {
+            state: self.state.copy(),
+            tick: opened.tick,
+            heard: HeardList::none(self.alloc),
+        };
+        hearing.mend(uses, opened.logs, self.alloc)?;
+        hearing.hear_items(opened.items.as_slice(), self.alloc)?;
+        Ok(hearing)
+    }
+
+    /// Takes a packet (RFC 6295, sections 4 and 5).
+    ///
+    /// The first packet that is taken has the number of its 16 bits, and all logs of its journal repair the state. A later one
+    /// is 1 to 32,767 steps behind the last: its number grows by them, modulo 2^64. Where no packet is missing between them
+    /// the journal isn't used; where one is, the state is repaired by the logs that tell of it, and else by all logs. Then the
+    /// whole commands of the section are applied in order.
+    ///
+    /// Refused, in this order: `Packet` for the header; `OtherSsrc` where the packet is of another stream; `Packet` for the
+    /// section; `Journal` where the journal isn't one, also where it isn't used; `Older` where the low bits of the number are 0
+    /// or at least 32,768 steps behind those of the last packet. `Memory` is answered where memory is refused. After a refusal
+    /// the receiver is as it was.
+    #[tactic(auto, unfolding(crate::specs::Accept::accepted))]
+    pub fn accept(&mut self, packet: &[u8]) -> Result<Took, ReadError<AcceptFault>>
+        ensures accepts { Accepts result self.new (accepted self.old packet.now) }
+        ensures unchanged { OnErr result (self.new ≡ self.old) }
+    {
+        let opened = open(self.ssrc, packet, self.alloc)?;
+        let place = match find_place(self.last, opened.number) {
+            Ok(place) => place,
+            Err(fault) => return Err(ReadError::Fault(fault)),
+        };
+        let hearing = self.hear(opened, place.uses)?;
+        self.state = hearing.state;
+        self.last = Some(place.number);
+        Ok(Took {
+            number: place.number,
+            gap: place.gap,
+            heard: hearing.heard,
+        })
+    }
+}
