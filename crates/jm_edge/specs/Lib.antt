@@ -3,3 +3,9 @@ pub mod Sink
 pub mod Source
 pub mod MemSource
 pub mod MemSink
+pub mod Wire
+pub mod Ticks
+pub mod MemPort
+pub mod Marks
+pub mod MarkLaws
+pub mod Taken

@@ -5,13 +5,13 @@ use Rattle.jm_edge.specs.declared.sink.Put.{Put}
 use Rattle.jm_edge.specs.declared.sink.Put.TheVariants.{Took, Failed}
 
 -- octets were taken, at least one and at most `offered`, if any
-abbrev pub IsWithin : Put → ℕ → Type 0
+abbrev pub IsWithin : Put → (offered : ℕ) → Type 0
 IsWithin (Took count) offered = (0 < count) × (count ≤ offered)
 IsWithin Failed offered = ⊤
 
 -- What a write did to the octets that were written, where they are told: the first of the piece follow
 -- them, and a fault adds none. An object that tells goes on telling, and one that doesn't never begins.
-abbrev pub Adds : Put → List ℕ → Option (List ℕ) → Option (List ℕ) → Type 0
+abbrev pub Adds : Put → (piece : List ℕ) (old new : Option (List ℕ)) → Type 0
 Adds (Took count) piece old new = new ≡ option_map (λ so_far. so_far ++ take count piece) old
 Adds Failed piece old new = new ≡ old
 

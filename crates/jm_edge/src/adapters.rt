@@ -13,14 +13,20 @@ use std::io::{Read, Write};
 pub struct ReadSource<R> {
     reader: R,
     faults: u64,
+    reads: u64,
 }
 
 impl<R: Read> ReadSource<R> {
-    /// A source over `reader`, with no faults counted yet.
+    /// A source over `reader`, with no faults and no reads counted yet.
     pub fn new(reader: R) -> Self
-        ensures { ⟦<ReadSource<R> as Source>⟧.faults result ≡ 0 }
+        ensures faultless { ⟦<ReadSource<R> as Source>⟧.faults result ≡ 0 }
+        ensures unread { ⟦<ReadSource<R> as Source>⟧.reads result ≡ 0 }
     {
-        ReadSource { reader, faults: 0 }
+        ReadSource {
+            reader,
+            faults: 0,
+            reads: 0,
+        }
     }
 }
 
@@ -29,7 +35,10 @@ impl<R: Read> Source for ReadSource<R> {
 
     ghost faults = { λ s. s.faults };
 
+    ghost reads = { λ s. s.reads };
+
     fn read(&mut self, buf: &mut [u8]) -> Got {
+        self.reads = self.reads.saturating_add(1);
         match self.reader.read(buf) {
             Ok(0) => Got::Done,
             Ok(count) => Got::Octets(count),

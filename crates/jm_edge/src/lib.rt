@@ -8,14 +8,24 @@
 
 mod adapters;
 mod faults;
+mod gate;
 mod memory;
+mod memory_port;
+mod port;
 mod sink;
 mod source;
+mod system;
+mod ticker;
 
 pub use adapters::{ReadSource, WriteSink};
+pub use gate::{FreeGate, Gate};
 pub use memory::{MemSink, MemSource};
+pub use memory_port::{Datagram, MemPort};
+pub use port::{LONGEST_DATAGRAM, Port, Recv, Sent};
 pub use sink::{Put, Sink};
 pub use source::{Got, Source};
+pub use system::{UdpPort, WallTicker};
+pub use ticker::{StepTicker, Ticker};
 
 /// Where a datagram comes from or goes to.
 #[derive(Clone, Copy, Debug, PartialEq, Eq, PartialOrd, Ord, Hash)]
@@ -26,5 +36,7 @@ pub struct Addr {
     pub port: u16,
 }
 
+#[cfg(test)]
+mod port_tests;
 #[cfg(test)]
 mod tests;

@@ -50,7 +50,7 @@ impl MemSource {
 }
 
 // Whether the call of this number is one that fails.
-fn is_listed(fails: &[u64], call: u128) -> bool
+pub(crate) fn is_listed(fails: &[u64], call: u128) -> bool
     ensures { result ≡ is_due fails.now call }
 {
     fails.iter().any(|number| u128::from(*number) == call)
@@ -62,6 +62,8 @@ impl Source for MemSource {
     ghost left = { λ s. Some s.left };
 
     ghost faults = { λ s. s.faults };
+
+    ghost reads = { λ s. s.call };
 
     /// Answers `Failed` exactly where the number of this call is in the list, and then takes nothing. Else it
     /// gives as many octets as are left and fit, or `Done` where none is left.
@@ -75,6 +77,7 @@ impl Source for MemSource {
         ensures within { of_source.IsWithin result (length buf.new) }
         ensures takes { of_source.Takes result buf.new (Some self.old.left) (Some self.new.left) }
         ensures counted { self.old.faults ≤ self.new.faults }
+        ensures read_once { of_source.OneMore self.old.call self.new.call }
         ensures failed { of_source.OnFailed result (Rose self.old.faults self.new.faults) }
     {
         let fails = is_listed(&self.fails, self.call);
@@ -94,7 +97,7 @@ impl Source for MemSource {
 }
 
 // Copies as many octets as both have, and returns how many.
-fn copy_front(from: &[u8], to: &mut [u8]) -> usize
+pub(crate) fn copy_front(from: &[u8], to: &mut [u8]) -> usize
     ensures count { result ≡ min (length to.old) (length from.now) }
     ensures copied { to.new ≡ take (length to.old) from.now ++ drop (length from.now) to.old }
     ensures front { take result to.new ≡ take result from.now }
@@ -182,7 +185,7 @@ impl Sink for MemSink {
 }
 
 // Appends a piece for which there is room.
-fn append_reserved(octets: &mut Vec<u8>, piece: &[u8])
+pub(crate) fn append_reserved(octets: &mut Vec<u8>, piece: &[u8])
     requires { vec_len octets.old + length piece.now ≤ vec_capacity octets.old }
     ensures items { octets.new.items ≡ octets.old.items ++ piece.now }
     ensures capacity { vec_capacity octets.old ≤ vec_capacity octets.new }
