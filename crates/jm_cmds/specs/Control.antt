@@ -1,7 +1,7 @@
 -- Controllers by what they do (RFC 6295, A.3.1 to A.3.4), and the commands that drop others.
 use Rattle.std.specs.Prelude.{ℕ, Bool, true, false, ◌&&◌, ◌||◌, List, [], ◌∷◌, nat_le, ◌==◌, if◌then◌else◌}
 use Rattle.jm_cmds.specs.declared.controls.ControlKind.{ControlKind}
-use Rattle.jm_cmds.specs.declared.controls.ControlKind.TheVariants.{DataEntry, Selection, Increment, Silence, ResetControllers, Mode, Kept, Plain}
+use Rattle.jm_cmds.specs.declared.controls.ControlKind.TheVariants.{DataEntry, Selection, Increment, Silence, ResetControllers, Mode, Kept, Pedal, Plain}
 use Rattle.jm_cmds.specs.declared.commands.Command.{Command}
 use Rattle.jm_cmds.specs.declared.commands.Command.TheVariants.{Control, SystemReset, Sysex}
 
@@ -19,11 +19,16 @@ control_kind number =
     else (if number == 121 then ResetControllers
     else (if nat_le 124 number then Mode number
     else (if number == 0 || number == 32 || number == 122 then Kept number
-    else Plain number))))))))))
+    else (if number == 64 then Pedal
+    else Plain number)))))))))))
 
 -- Controllers 6 and 38, which set a half of the selected parameter's value: of them Chapter M speaks alone.
 unfoldable pub is_entry : ℕ → Bool
 is_entry number = number == 6 || number == 38
+
+-- Controllers 96, 97, 120, 121 and 123, whose commands are counted: each of them acts by itself, whatever its value is.
+unfoldable pub is_counted : ℕ → Bool
+is_counted number = number == 96 || number == 97 || number == 120 || number == 121 || number == 123
 
 -- the number of a controller of this kind
 abbrev pub control_number : ControlKind → ℕ
@@ -34,6 +39,7 @@ control_number (Silence number) = number
 control_number ResetControllers = 121
 control_number (Mode number) = number
 control_number (Kept number) = number
+control_number Pedal = 64
 control_number (Plain number) = number
 
 -- whether it ends all notes of its channel
@@ -45,6 +51,7 @@ clears_notes (Silence number) = true
 clears_notes ResetControllers = false
 clears_notes (Mode number) = true
 clears_notes (Kept number) = false
+clears_notes Pedal = false
 clears_notes (Plain number) = false
 
 -- whether it sets back the controllers of its channel
@@ -56,6 +63,7 @@ clears_controllers (Silence number) = false
 clears_controllers ResetControllers = true
 clears_controllers (Mode number) = false
 clears_controllers (Kept number) = false
+clears_controllers Pedal = false
 clears_controllers (Plain number) = false
 
 -- the System Exclusive messages that turn General MIDI on: 7E, any device, 09, 01 or 03

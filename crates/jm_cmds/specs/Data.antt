@@ -1,5 +1,5 @@
 -- Data octets: those of a command behind its status octet.
-use Rattle.std.specs.Prelude.{◌≡◌, ℕ, ◌≤◌, Bool, true, List, length, nat_lt}
+use Rattle.std.specs.Prelude.{◌≡◌, ℕ, ◌≤◌, Bool, true, List, length, nat_lt, nat_le}
 use Rattle.std.specs.List.{list_all, prefix_len}
 
 -- the high bit of a data octet is 0
@@ -18,3 +18,7 @@ data_len octets = prefix_len is_data octets
 pub record IsSysex (octets : List ℕ) : Type 0 where
   pub octets_are_data : IsData octets
   pub few : length octets ≤ 2046
+
+-- The data octets of a message that is kept for repair: no more than 254, which is this project's own bound.
+abbrev pub is_kept_message : List ℕ → Bool
+is_kept_message octets = nat_le (length octets) 254

@@ -10,20 +10,20 @@ standing ends [] = []
 standing ends (x ∷ xs) = if list_any (ends x) xs then standing ends xs else x ∷ standing ends xs
 
 -- the places in packets before this one
-abbrev pub below : {X : Type 0} → (X → ℕ) → ℕ → List X → List X
+abbrev pub below : {X : Type 0} → (X → ℕ) → (packet : ℕ) → List X → List X
 below packet_at packet xs = filter (λ x. nat_lt (packet_at x) packet) xs
 
 -- the places in packets from this one on
-abbrev pub since : {X : Type 0} → (X → ℕ) → ℕ → List X → List X
+abbrev pub since : {X : Type 0} → (X → ℕ) → (packet : ℕ) → List X → List X
 since packet_at packet xs = filter (λ x. nat_le packet (packet_at x)) xs
 
 -- the places in this packet
-abbrev pub within : {X : Type 0} → (X → ℕ) → ℕ → List X → List X
+abbrev pub within : {X : Type 0} → (X → ℕ) → (packet : ℕ) → List X → List X
 within packet_at packet xs = filter (λ x. packet_at x == packet) xs
 
 -- What a journal with this checkpoint codes: the places that no later one ends, from the checkpoint on
 -- (RFC 6295, A.1: the checkpoint history).
-abbrev pub coded : {X : Type 0} → (X → X → Bool) → (X → ℕ) → ℕ → List X → List X
+abbrev pub coded : {X : Type 0} → (X → X → Bool) → (X → ℕ) → (checkpoint : ℕ) → List X → List X
 coded ends packet_at checkpoint xs = since packet_at checkpoint (standing ends xs)
 
 -- the numbers never fall along the list

@@ -279,43 +279,43 @@ flat_map-standing ends text x xs =
 -- ## One place more of what is coded
 
 -- a place is passed over where a later one ends it, or where it is older than the checkpoint
-pub flat_map-coded : {X Y : Type 0} (ends : X → X → Bool) (at : X → ℕ) (from : ℕ) (text : X → List Y) (x : X) (xs : List X) → flat_map text (coded ends at from (x ∷ xs)) ≡ cond (list_any (ends x) xs) [] (cond (leb from (at x)) (text x) []) ++ flat_map text (coded ends at from xs)
-flat_map-coded ends at from text x xs =
+pub flat_map-coded : {X Y : Type 0} (ends : X → X → Bool) (at : X → ℕ) (checkpoint : ℕ) (text : X → List Y) (x : X) (xs : List X) → flat_map text (coded ends at checkpoint (x ∷ xs)) ≡ cond (list_any (ends x) xs) [] (cond (leb checkpoint (at x)) (text x) []) ++ flat_map text (coded ends at checkpoint xs)
+flat_map-coded ends at checkpoint text x xs =
     elim (cases_Bool (list_any (ends x) xs)) [
       | inl t ↦ rw t refl
-      | inr f ↦ elim (cases_Bool (leb from (at x))) [ inl l ↦ rw (f, l) refl | inr n ↦ rw (f, n) refl ]
+      | inr f ↦ elim (cases_Bool (leb checkpoint (at x))) [ inl l ↦ rw (f, l) refl | inr n ↦ rw (f, n) refl ]
     ]
 
-pub fold-coded : {S X : Type 0} (ends : X → X → Bool) (at : X → ℕ) (from : ℕ) (step : S → X → S) (s : S) (x : X) (xs : List X) → fold step s (coded ends at from (x ∷ xs)) ≡ fold step (cond (list_any (ends x) xs) s (cond (leb from (at x)) (step s x) s)) (coded ends at from xs)
-fold-coded ends at from step s x xs =
+pub fold-coded : {S X : Type 0} (ends : X → X → Bool) (at : X → ℕ) (checkpoint : ℕ) (step : S → X → S) (s : S) (x : X) (xs : List X) → fold step s (coded ends at checkpoint (x ∷ xs)) ≡ fold step (cond (list_any (ends x) xs) s (cond (leb checkpoint (at x)) (step s x) s)) (coded ends at checkpoint xs)
+fold-coded ends at checkpoint step s x xs =
     elim (cases_Bool (list_any (ends x) xs)) [
       | inl t ↦ rw t refl
-      | inr f ↦ elim (cases_Bool (leb from (at x))) [ inl l ↦ rw (f, l) refl | inr n ↦ rw (f, n) refl ]
+      | inr f ↦ elim (cases_Bool (leb checkpoint (at x))) [ inl l ↦ rw (f, l) refl | inr n ↦ rw (f, n) refl ]
     ]
 
-pub filter_map-coded : {X Y : Type 0} (ends : X → X → Bool) (at : X → ℕ) (from : ℕ) (f : X → Option Y) (x : X) (xs : List X) →
-    filter_map f (coded ends at from (x ∷ xs)) ≡ cons_option (cond (list_any (ends x) xs) None (cond (leb from (at x)) (f x) None)) (filter_map f (coded ends at from xs))
-filter_map-coded ends at from f x xs =
+pub filter_map-coded : {X Y : Type 0} (ends : X → X → Bool) (at : X → ℕ) (checkpoint : ℕ) (f : X → Option Y) (x : X) (xs : List X) →
+    filter_map f (coded ends at checkpoint (x ∷ xs)) ≡ cons_option (cond (list_any (ends x) xs) None (cond (leb checkpoint (at x)) (f x) None)) (filter_map f (coded ends at checkpoint xs))
+filter_map-coded ends at checkpoint f x xs =
     elim (cases_Bool (list_any (ends x) xs)) [
       | inl t ↦ rw t refl
-      | inr n ↦ elim (cases_Bool (leb from (at x))) [ inl l ↦ rw (n, l) refl | inr o ↦ rw (n, o) refl ]
+      | inr n ↦ elim (cases_Bool (leb checkpoint (at x))) [ inl l ↦ rw (n, l) refl | inr o ↦ rw (n, o) refl ]
     ]
 
-pub any-coded : {X : Type 0} (ends : X → X → Bool) (at : X → ℕ) (from : ℕ) (test : X → Bool) (x : X) (xs : List X) → list_any test (coded ends at from (x ∷ xs)) ≡ cond (list_any (ends x) xs) false (cond (leb from (at x)) (test x) false) || list_any test (coded ends at from xs)
-any-coded ends at from test x xs =
+pub any-coded : {X : Type 0} (ends : X → X → Bool) (at : X → ℕ) (checkpoint : ℕ) (test : X → Bool) (x : X) (xs : List X) → list_any test (coded ends at checkpoint (x ∷ xs)) ≡ cond (list_any (ends x) xs) false (cond (leb checkpoint (at x)) (test x) false) || list_any test (coded ends at checkpoint xs)
+any-coded ends at checkpoint test x xs =
     elim (cases_Bool (list_any (ends x) xs)) [
       | inl t ↦ rw t refl
-      | inr f ↦ elim (cases_Bool (leb from (at x))) [ inl l ↦ rw (f, l) refl | inr n ↦ rw (f, n) refl ]
+      | inr f ↦ elim (cases_Bool (leb checkpoint (at x))) [ inl l ↦ rw (f, l) refl | inr n ↦ rw (f, n) refl ]
     ]
 
 -- One more command: what it ends is no longer coded, and it is coded itself.
-pub coded-push : {X : Type 0} (ends : X → X → Bool) (at : X → ℕ) (from : ℕ) (xs : List X) (y : X) → from ≤ at y → coded ends at from (xs ++ y ∷ []) ≡ filter (λ x. not (ends x y)) (coded ends at from xs) ++ y ∷ []
-coded-push ends at from xs y l =
-    let late : _ → Bool = λ x. leb from (at x) in
+pub coded-push : {X : Type 0} (ends : X → X → Bool) (at : X → ℕ) (checkpoint : ℕ) (xs : List X) (y : X) → checkpoint ≤ at y → coded ends at checkpoint (xs ++ y ∷ []) ≡ filter (λ x. not (ends x y)) (coded ends at checkpoint xs) ++ y ∷ []
+coded-push ends at checkpoint xs y l =
+    let late : _ → Bool = λ x. leb checkpoint (at x) in
     let left : _ → Bool = λ x. not (ends x y) in
     ap (filter late) (standing-push ends xs y)
     ∙ filter-append late (filter left (standing ends xs)) (y ∷ [])
-    ∙ rw (le-leb from (at y) l) (ap (λ (k : List _). k ++ y ∷ []) (filter-swap late left (standing ends xs)))
+    ∙ rw (le-leb checkpoint (at y) l) (ap (λ (k : List _). k ++ y ∷ []) (filter-swap late left (standing ends xs)))
 
 -- ## States along a history
 
@@ -327,3 +327,25 @@ any-scanned step test s (x ∷ xs) = ap (λ b. test x || b) (any-scanned step te
 pub scanned-push : {S X : Type 0} (step : S → X → S) (s : S) (xs : List X) (y : X) → scanned step s (xs ++ y ∷ []) ≡ scanned step s xs ++ (fold step s xs, y) ∷ []
 scanned-push step s [] y = refl
 scanned-push step s (x ∷ xs) y = ap (λ l. (s, x) ∷ l) (scanned-push step (step s x) xs y)
+
+-- what holds of each place holds of it with the state before it
+pub AllByRecursion-scanned : {S X : Type 0} (P : X → Type 0) (step : S → X → S) (s : S) (xs : List X) → AllByRecursion P xs → AllByRecursion (λ p. P p.1) (scanned step s xs)
+AllByRecursion-scanned P step s [] h = tt
+AllByRecursion-scanned P step s (x ∷ xs) h = (h.0, AllByRecursion-scanned P step (step s x) xs h.1)
+
+pub InOrder-scanned : {S X : Type 0} (number_of : X → ℕ) (step : S → X → S) (s : S) (xs : List X) → InOrder number_of xs → InOrder (λ p. number_of p.1) (scanned step s xs)
+InOrder-scanned number_of step s [] h = tt
+InOrder-scanned number_of step s (x ∷ xs) h =
+    (AllByRecursion-scanned (λ y. number_of x ≤ number_of y) step (step s x) xs h.0, InOrder-scanned number_of step (step s x) xs h.1)
+
+-- What is coded of places with the state before each of them stands oldest first, and is of distinct items.
+pub record IsCodedWell {X : Type 0} (number_of : X → ℕ) (ends : X → X → Bool) (coded : List X) : Type 0 where
+  pub oldest_first : InOrder number_of coded
+  pub distinct : Unended ends coded
+
+pub coded-scanned : {S X : Type 0} (number_of : X → ℕ) (step : S → X → S) (ends : S × X → S × X → Bool) (at : S × X → ℕ) (s : S) (checkpoint : ℕ) (xs : List X) → InOrder number_of xs
+    → IsCodedWell (λ p. number_of p.1) ends (coded ends at checkpoint (scanned step s xs))
+coded-scanned number_of step ends at s checkpoint xs h = record {
+  oldest_first = InOrder-coded (λ p. number_of p.1) ends at checkpoint (scanned step s xs) (InOrder-scanned number_of step s xs h);
+  distinct = Unended-coded ends at checkpoint (scanned step s xs);
+}

@@ -118,33 +118,33 @@ count-push : {X : Type 0} (key : X → Option ℕ) (xs : List X) (y : X) → key
 count-push key xs y = ap length (filter_map-append key xs (y ∷ [])) ∙ length-append (filter_map key xs) (cons_option (key y) [])
 
 -- One more command makes the coded keys at most one more.
-pub keys_push : {X : Type 0} (ends : X → X → Bool) (at : X → ℕ) (key : X → Option ℕ) (from : ℕ) (xs : List X) (y : X) → from ≤ at y → key_count key (coded ends at from (xs ++ y ∷ [])) ≤ key_count key (coded ends at from xs) + 1
-keys_push ends at key from xs y l =
+pub keys_push : {X : Type 0} (ends : X → X → Bool) (at : X → ℕ) (key : X → Option ℕ) (checkpoint : ℕ) (xs : List X) (y : X) → checkpoint ≤ at y → key_count key (coded ends at checkpoint (xs ++ y ∷ [])) ≤ key_count key (coded ends at checkpoint xs) + 1
+keys_push ends at key checkpoint xs y l =
     let left : _ → Bool = λ x. not (ends x y) in
-    let all = ap (key_count key) (coded-push ends at from xs y l) ∙ count-push key (filter left (coded ends at from xs)) y in
-    omega (arith, all, count-filter key left (coded ends at from xs), option_small (key y))
+    let all = ap (key_count key) (coded-push ends at checkpoint xs y l) ∙ count-push key (filter left (coded ends at checkpoint xs)) y in
+    omega (arith, all, count-filter key left (coded ends at checkpoint xs), option_small (key y))
 
 -- One without a key makes them no more.
-pub keys_none : {X : Type 0} (ends : X → X → Bool) (at : X → ℕ) (key : X → Option ℕ) (from : ℕ) (xs : List X) (y : X) → from ≤ at y → key y ≡ None → key_count key (coded ends at from (xs ++ y ∷ [])) ≤ key_count key (coded ends at from xs)
-keys_none ends at key from xs y l e =
+pub keys_none : {X : Type 0} (ends : X → X → Bool) (at : X → ℕ) (key : X → Option ℕ) (checkpoint : ℕ) (xs : List X) (y : X) → checkpoint ≤ at y → key y ≡ None → key_count key (coded ends at checkpoint (xs ++ y ∷ [])) ≤ key_count key (coded ends at checkpoint xs)
+keys_none ends at key checkpoint xs y l e =
     let left : _ → Bool = λ x. not (ends x y) in
-    let all = ap (key_count key) (coded-push ends at from xs y l) ∙ count-push key (filter left (coded ends at from xs)) y in
+    let all = ap (key_count key) (coded-push ends at checkpoint xs y l) ∙ count-push key (filter left (coded ends at checkpoint xs)) y in
     let none : length (cons_option (key y) []) ≡ 0 = rw e refl in
-    omega (arith, all, count-filter key left (coded ends at from xs), none)
+    omega (arith, all, count-filter key left (coded ends at checkpoint xs), none)
 
 -- Nor does one whose key is coded.
-pub keys_met : {X : Type 0} (ends : X → X → Bool) (at : X → ℕ) (key : X → Option ℕ) (meets : EndsKey ends key) (from : ℕ) (xs : List X) (y : X) (k : ℕ) → from ≤ at y → key y ≡ Some k → has_key key k (coded ends at from xs) ≡ true → key_count key (coded ends at from (xs ++ y ∷ [])) ≤ key_count key (coded ends at from xs)
-keys_met ends at key meets from xs y k l e h =
+pub keys_met : {X : Type 0} (ends : X → X → Bool) (at : X → ℕ) (key : X → Option ℕ) (meets : EndsKey ends key) (checkpoint : ℕ) (xs : List X) (y : X) (k : ℕ) → checkpoint ≤ at y → key y ≡ Some k → has_key key k (coded ends at checkpoint xs) ≡ true → key_count key (coded ends at checkpoint (xs ++ y ∷ [])) ≤ key_count key (coded ends at checkpoint xs)
+keys_met ends at key meets checkpoint xs y k l e h =
     let left : _ → Bool = λ x. not (ends x y) in
-    let all = ap (key_count key) (coded-push ends at from xs y l) ∙ count-push key (filter left (coded ends at from xs)) y in
-    let less = count-drop key left k (λ x kx. ap not (meets x y k kx e)) (coded ends at from xs) h in
+    let all = ap (key_count key) (coded-push ends at checkpoint xs y l) ∙ count-push key (filter left (coded ends at checkpoint xs)) y in
+    let less = count-drop key left k (λ x kx. ap not (meets x y k kx e)) (coded ends at checkpoint xs) h in
     omega (arith, all, less, option_small (key y))
 
 -- A later checkpoint makes them no more.
-pub keys_later : {X : Type 0} (ends : X → X → Bool) (at : X → ℕ) (key : X → Option ℕ) (from later : ℕ) (xs : List X) → from ≤ later → key_count key (coded ends at later xs) ≤ key_count key (coded ends at from xs)
-keys_later ends at key from later xs l =
-    let less = count-filter key (λ x. leb later (at x)) (coded ends at from xs) in
-    rw (coded-later ends at from later xs l) at less
+pub keys_later : {X : Type 0} (ends : X → X → Bool) (at : X → ℕ) (key : X → Option ℕ) (checkpoint later : ℕ) (xs : List X) → checkpoint ≤ later → key_count key (coded ends at later xs) ≤ key_count key (coded ends at checkpoint xs)
+keys_later ends at key checkpoint later xs l =
+    let less = count-filter key (λ x. leb later (at x)) (coded ends at checkpoint xs) in
+    rw (coded-later ends at checkpoint later xs l) at less
 
 -- ## Weights
 
@@ -162,11 +162,11 @@ sum-push : {X : Type 0} (weight : X → ℕ) (xs : List X) (y : X) → sum_by we
 sum-push weight xs y = sum_by-append weight xs (y ∷ []) ∙ omega (arith, sum_by-cons weight y [])
 
 -- One more command adds at most its own weight to what is coded.
-pub weights_push : {X : Type 0} (ends : X → X → Bool) (at : X → ℕ) (weight : X → ℕ) (from : ℕ) (xs : List X) (y : X) → from ≤ at y → sum_by weight (coded ends at from (xs ++ y ∷ [])) ≤ sum_by weight (coded ends at from xs) + weight y
-weights_push ends at weight from xs y l =
+pub weights_push : {X : Type 0} (ends : X → X → Bool) (at : X → ℕ) (weight : X → ℕ) (checkpoint : ℕ) (xs : List X) (y : X) → checkpoint ≤ at y → sum_by weight (coded ends at checkpoint (xs ++ y ∷ [])) ≤ sum_by weight (coded ends at checkpoint xs) + weight y
+weights_push ends at weight checkpoint xs y l =
     let left : _ → Bool = λ x. not (ends x y) in
-    let all = ap (sum_by weight) (coded-push ends at from xs y l) ∙ sum-push weight (filter left (coded ends at from xs)) y in
-    omega (arith, all, sum-filter weight left (coded ends at from xs))
+    let all = ap (sum_by weight) (coded-push ends at checkpoint xs y l) ∙ sum-push weight (filter left (coded ends at checkpoint xs)) y in
+    omega (arith, all, sum-filter weight left (coded ends at checkpoint xs))
 
 sum-none : {X : Type 0} (weight : X → ℕ) (p : X → Bool) (drops : (x : X) → p x ≡ true → weight x ≡ 0) (xs : List X) → sum_by weight (filter p xs) ≡ 0
 sum-none weight p drops [] = refl
@@ -178,14 +178,14 @@ sum-none weight p drops (x ∷ xs) =
     ]
 
 -- Where it ends all that has a weight, its own is all.
-pub weights_ended : {X : Type 0} (ends : X → X → Bool) (at : X → ℕ) (weight : X → ℕ) (from : ℕ) (xs : List X) (y : X) → from ≤ at y → ((x : X) → not (ends x y) ≡ true → weight x ≡ 0) → sum_by weight (coded ends at from (xs ++ y ∷ [])) ≡ weight y
-weights_ended ends at weight from xs y l drops =
+pub weights_ended : {X : Type 0} (ends : X → X → Bool) (at : X → ℕ) (weight : X → ℕ) (checkpoint : ℕ) (xs : List X) (y : X) → checkpoint ≤ at y → ((x : X) → not (ends x y) ≡ true → weight x ≡ 0) → sum_by weight (coded ends at checkpoint (xs ++ y ∷ [])) ≡ weight y
+weights_ended ends at weight checkpoint xs y l drops =
     let left : _ → Bool = λ x. not (ends x y) in
-    let all = ap (sum_by weight) (coded-push ends at from xs y l) ∙ sum-push weight (filter left (coded ends at from xs)) y in
-    omega (arith, all, sum-none weight left drops (coded ends at from xs))
+    let all = ap (sum_by weight) (coded-push ends at checkpoint xs y l) ∙ sum-push weight (filter left (coded ends at checkpoint xs)) y in
+    omega (arith, all, sum-none weight left drops (coded ends at checkpoint xs))
 
 -- A later checkpoint makes the weights no greater.
-pub weights_later : {X : Type 0} (ends : X → X → Bool) (at : X → ℕ) (weight : X → ℕ) (from later : ℕ) (xs : List X) → from ≤ later → sum_by weight (coded ends at later xs) ≤ sum_by weight (coded ends at from xs)
-weights_later ends at weight from later xs l =
-    let less = sum-filter weight (λ x. leb later (at x)) (coded ends at from xs) in
-    rw (coded-later ends at from later xs l) at less
+pub weights_later : {X : Type 0} (ends : X → X → Bool) (at : X → ℕ) (weight : X → ℕ) (checkpoint later : ℕ) (xs : List X) → checkpoint ≤ later → sum_by weight (coded ends at later xs) ≤ sum_by weight (coded ends at checkpoint xs)
+weights_later ends at weight checkpoint later xs l =
+    let less = sum-filter weight (λ x. leb later (at x)) (coded ends at checkpoint xs) in
+    rw (coded-later ends at checkpoint later xs l) at less

@@ -1,10 +1,12 @@
 -- What the laws of this crate say.
-use Rattle.std.specs.Prelude.{◌≡◌, ℕ, ◌+◌, ◌≤◌, Bool, not, true, List, [], ◌∷◌, ◌++◌, length, filter, Option, Some, sum_by, Ok}
+use Rattle.std.specs.Prelude.{◌≡◌, ℕ, ◌+◌, ◌≤◌, Bool, not, true, List, [], ◌∷◌, ◌++◌, length, filter, Option, Some, sum_by, Ok, Err}
 use Rattle.jm_cmds.specs.declared.commands.Command.{Command}
 use Rattle.jm_cmds.specs.declared.history.Sent.{Sent}
 use Rattle.jm_cmds.specs.Command.{spelling, IsCommand}
 use Rattle.jm_cmds.specs.Control.{control_kind, control_number}
 use Rattle.jm_cmds.specs.CommandLaws.{BeginsWith}
+use Rattle.jm_cmds.specs.declared.reading.CmdFault.{CmdFault}
+use Rattle.jm_cmds.specs.FaultLaws.{Shows}
 use Rattle.jm_cmds.specs.Reading.{command_read}
 use Rattle.jm_cmds.specs.History.{standing, since, below, within, coded, InOrder, Unended}
 use Rattle.jm_cmds.specs.Sent.{packet_of}
@@ -21,6 +23,10 @@ ReadsSpelled = (command : Command) (rest : List ℕ) → IsCommand command → c
 -- A command is read only where its spelling stands at the front.
 abbrev pub ReadsOnlySpelled : Type 0
 ReadsOnlySpelled = (octets : List ℕ) (command : Command) (size : ℕ) → command_read octets ≡ Ok (command, size) → BeginsWith octets command size
+
+-- Octets are refused only for what they show: the fault is of the first octet that shows one.
+abbrev pub FaultsShow : Type 0
+FaultsShow = (octets : List ℕ) (fault : CmdFault) → command_read octets ≡ Err fault → Shows octets fault
 
 -- One more place: those that it ends go, and it stands itself.
 abbrev pub StandsLast : Type 0

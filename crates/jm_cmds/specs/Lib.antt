@@ -1,3 +1,4 @@
+pub mod Channels
 pub mod Command
 pub mod Control
 pub mod ControlLaws
@@ -10,13 +11,18 @@ pub mod Reading
 pub mod History
 pub mod HistoryLaws
 pub mod OneItem
+pub mod OnePlace
+pub mod KeptItem
 pub mod Keys
 pub mod Sent
-pub mod Listed
-pub mod ListedLaws
+pub mod SentLaws
 pub mod Sequencing
 pub mod Frames
+pub mod FrameLaws
 pub mod Param
+pub mod ParamLaws
 pub mod Selection
+pub mod Pedal
 pub mod CommandLaws
+pub mod FaultLaws
 pub mod Laws

@@ -10,7 +10,7 @@ use Rattle.jm_cmds.specs.HistoryLaws.{flat_map-standing}
 abbrev pub replaced : {X : Type 0} → (X → Bool) → (X → Bool) → X → X → Bool
 replaced item touches x y = item x && touches y
 
-any-replaced : {X : Type 0} (item touches : X → Bool) (x : X) (xs : List X) → list_any (replaced item touches x) xs ≡ (item x && list_any touches xs)
+pub any-replaced : {X : Type 0} (item touches : X → Bool) (x : X) (xs : List X) → list_any (replaced item touches x) xs ≡ (item x && list_any touches xs)
 any-replaced item touches x [] = elim (cases_Bool (item x)) [ inl t ↦ rw t refl | inr f ↦ rw f refl ]
 any-replaced item touches x (y ∷ ys) =
     let ih = any-replaced item touches x ys in
@@ -89,14 +89,14 @@ fresh-kept item touches step fresh test k s xs none =
 
 -- ## From the checkpoint on
 
-pub flat_map-since : {X Y : Type 0} (at : X → ℕ) (from : ℕ) (log : X → List Y) (xs : List X) → flat_map log (since at from xs) ≡ flat_map (λ x. cond (leb from (at x)) (log x) []) xs
-flat_map-since at from log [] = refl
-flat_map-since at from log (x ∷ xs) =
-    let ih = flat_map-since at from log xs in
-    elim (cases_Bool (leb from (at x))) [ inl t ↦ rw t (ap (λ l. log x ++ l) ih) | inr f ↦ rw f ih ]
+pub flat_map-since : {X Y : Type 0} (at : X → ℕ) (checkpoint : ℕ) (log : X → List Y) (xs : List X) → flat_map log (since at checkpoint xs) ≡ flat_map (λ x. cond (leb checkpoint (at x)) (log x) []) xs
+flat_map-since at checkpoint log [] = refl
+flat_map-since at checkpoint log (x ∷ xs) =
+    let ih = flat_map-since at checkpoint log xs in
+    elim (cases_Bool (leb checkpoint (at x))) [ inl t ↦ rw t (ap (λ l. log x ++ l) ih) | inr f ↦ rw f ih ]
 
-pub any-since : {X : Type 0} (at : X → ℕ) (from : ℕ) (test : X → Bool) (xs : List X) → list_any test (since at from xs) ≡ list_any (λ x. leb from (at x) && test x) xs
-any-since at from test [] = refl
-any-since at from test (x ∷ xs) =
-    let ih = any-since at from test xs in
-    elim (cases_Bool (leb from (at x))) [ inl t ↦ rw t (ap (λ b. test x || b) ih) | inr f ↦ rw f ih ]
+pub any-since : {X : Type 0} (at : X → ℕ) (checkpoint : ℕ) (test : X → Bool) (xs : List X) → list_any test (since at checkpoint xs) ≡ list_any (λ x. leb checkpoint (at x) && test x) xs
+any-since at checkpoint test [] = refl
+any-since at checkpoint test (x ∷ xs) =
+    let ih = any-since at checkpoint test xs in
+    elim (cases_Bool (leb checkpoint (at x))) [ inl t ↦ rw t (ap (λ b. test x || b) ih) | inr f ↦ rw f ih ]

@@ -1,15 +1,11 @@
 -- The command at the front of octets, or the first fault that they show.
 use Rattle.std.specs.Prelude.{ℕ, ◌+◌, ◌*◌, ◌%◌, List, [], ◌∷◌, length, take, drop, slice_index, Result, Ok, Err, nat_lt, ◌==◌, if◌then◌else◌}
+use Rattle.jm_wire.specs.Readers.{◌>>=◌}
 use Rattle.jm_cmds.specs.declared.commands.Command.{Command}
 use Rattle.jm_cmds.specs.declared.commands.Command.TheVariants.{NoteOff, NoteOn, PolyPressure, Control, Program, Pressure, Wheel, QuarterFrame, SongPosition, SongSelect, TuneRequest, Clock, Start, Continue, Stop, ActiveSensing, SystemReset, Sysex}
 use Rattle.jm_cmds.specs.declared.reading.CmdFault.{CmdFault}
 use Rattle.jm_cmds.specs.declared.reading.CmdFault.TheVariants.{Empty, DataOctet, BadStatus, BadData, TooLong, Short}
 use Rattle.jm_cmds.specs.Data.{is_data, data_len}
-
-infixl 10 ◌>>=◌
-abbrev pub ◌>>=◌ : {A B : Type 0} → Result A CmdFault → (A → Result B CmdFault) → Result B CmdFault
-(Ok x) >>= f = f x
-(Err e) >>= f = Err e
 
 -- the octet at this place of the command, which must be data
 abbrev pub one_data : ℕ → List ℕ → Result ℕ CmdFault

@@ -28,7 +28,7 @@ abbrev pub no_selection : Halves
 no_selection = record { nrpn = false; rpn_high = None; rpn_low = None; nrpn_high = None; nrpn_low = None }
 
 -- with one more half of a parameter's number, whose kind is then the latest
-abbrev pub selection_with : Bool → Bool → ℕ → Halves → Halves
+abbrev pub selection_with : (nrpn high : Bool) (value : ℕ) → Halves → Halves
 selection_with true true value s = record s { nrpn = true; nrpn_high = Some value }
 selection_with true false value s = record s { nrpn = true; nrpn_low = Some value }
 selection_with false true value s = record s { nrpn = false; rpn_high = Some value }

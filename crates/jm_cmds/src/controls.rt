@@ -1,12 +1,13 @@
 //! Controllers by what they do, and the commands that drop what came before.
 
 ghost use Rattle.std.specs.Prelude.{◌≡◌};
-ghost use Rattle.jm_cmds.specs.Control.{control_kind, control_number, is_entry, clears_notes, clears_controllers, is_reset, is_reset_message, ends_notes, ends_controllers};
+ghost use Rattle.jm_cmds.specs.Control.{control_kind, control_number, is_entry, is_counted, clears_notes, clears_controllers, is_reset, is_reset_message, ends_notes, ends_controllers};
 
 use crate::commands::Command;
 use crate::numbers::{Channel, D7};
 
-/// What a controller does, with its number where the kind has several (RFC 6295, A.3.1 to A.3.4).
+/// What a controller does, with its number where the kind has several. Which controllers are counted, and which 121
+/// leaves as they are, is this project's own choice (compare RFC 6295, A.3.1 and A.3.2).
 #[derive(Clone, Copy, PartialEq, Eq, Debug)]
 pub enum ControlKind {
     /// 6 and 38: the high or the low half of the selected parameter's value.
@@ -24,6 +25,8 @@ pub enum ControlKind {
     Mode { number: D7 },
     /// 0, 32 and 122, which 121 doesn't set back.
     Kept { number: D7 },
+    /// 64: the sustain pedal.
+    Pedal,
     /// All others.
     Plain { number: D7 },
 }
@@ -58,6 +61,7 @@ impl ControlKind {
             121 => ControlKind::ResetControllers,
             124.. => ControlKind::Mode { number },
             0 | 32 | 122 => ControlKind::Kept { number },
+            64 => ControlKind::Pedal,
             _ => ControlKind::Plain { number },
         }
     }
@@ -77,13 +81,23 @@ impl ControlKind {
     }
 }
 
-/// Whether the controller with this number, 6 or 38, sets a half of the selected parameter's value, so that
-/// Chapter M speaks of it and Chapter C doesn't (RFC 6295, A.3.4).
+/// Whether the controller with this number, 6 or 38, sets a half of the selected parameter's value. That Chapter M speaks
+/// of it and Chapter C never does is this project's own rule: in RFC 6295, A.3.4, Chapter C codes it where no parameter is
+/// selected.
 #[tactic(auto, unfolding(crate::specs::Control::is_entry))]
 pub fn is_entry(number: D7) -> bool
     ensures { result ≡ is_entry number }
 {
     matches!(number.get(), 6 | 38)
+}
+
+/// Whether the commands of the controller with this number, 96, 97, 120, 121 or 123, are counted: each of them acts by
+/// itself, whatever its value is. To tell how many of them came, and not their value, is this project's own choice.
+#[tactic(auto, unfolding(crate::specs::Control::is_counted))]
+pub fn is_counted(number: D7) -> bool
+    ensures { result ≡ is_counted number }
+{
+    matches!(number.get(), 96 | 97 | 120 | 121 | 123)
 }
 
 /// Whether these data octets are a message that turns General MIDI on, which is a Reset State command: 7E, any device,

@@ -6,36 +6,38 @@
 //! running status or of packets: those stand in the crates above.
 #![tactic(auto)]
 
+mod channels;
 mod commands;
 mod controls;
 mod frames;
 mod history;
 pub mod laws;
-mod listed;
 mod numbers;
 mod outcome;
 mod param;
+mod pedal;
 mod reading;
 mod selection;
 mod sequencing;
 mod system_exclusive;
 
+pub use channels::is_packet_before;
 pub use commands::{Command, Spelled};
-pub use controls::{ControlKind, is_entry, is_reset_message};
+pub use controls::{ControlKind, is_counted, is_entry, is_reset_message};
 pub use frames::{FrameEvent, TimePart, frame_event, time_code_after, time_code_step};
 pub use history::{
     Sent, checkpoint_history, first_place, in_order, place_of, s_of, session_history,
 };
-pub use listed::{Log, Logs};
 pub use numbers::{Channel, D7, D14};
 pub use outcome::ReadError;
 pub use param::Param;
+pub use pedal::{Pedal, PedalEvent, pedal_after, pedal_event, pedal_step};
 pub use reading::{CmdFault, read_command};
 pub use selection::{ParamCommand, Selection, param_command};
 pub use sequencing::{
     SequencerEvent, SequencerPart, sequencer_after, sequencer_event, sequencer_step,
 };
-pub use system_exclusive::{Sysex, SysexFault, data_len};
+pub use system_exclusive::{LONGEST_KEPT, Sysex, SysexFault, data_len};
 
 #[cfg(test)]
 mod tests;

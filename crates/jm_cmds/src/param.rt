@@ -14,8 +14,8 @@ pub struct Param {
 }
 
 impl Param {
-    /// The parameter with these halves of its number: none where one of them is missing, or where both are
-    /// 127 (RFC 6295, A.1: the null parameter).
+    /// The parameter with these halves of its number. None where both are 127, which is the null parameter (RFC 6295, A.1
+    /// and A.3.4), and none where one of them is missing, which is this project's own rule.
     pub fn of(nrpn: bool, high: Option<D7>, low: Option<D7>) -> Option<Param>
         ensures { result ≡ param_of nrpn high low }
     {

@@ -1,7 +1,7 @@
 //! Reading one command.
 
 ghost use Rattle.std.specs.Prelude.{◌≡◌, ◌-◌, ◌<◌, ◌≤◌, ◌⊎◌, drop, take, length};
-ghost use Rattle.jm_cmds.specs.Gives.{Gives};
+ghost use Rattle.jm_cmds.specs.Gives.{Gives, WantsForGood};
 ghost use Rattle.jm_cmds.specs.Reading.{command_read, one_data, two_data, channel_read, system_read, message_read};
 
 use crate::commands::Command;
@@ -158,7 +158,8 @@ fn system_command(status: u8, rest: &[u8]) -> Result<(Command, usize), CmdFault>
 
 /// A System Exclusive message behind its F0.
 fn message(rest: &[u8], alloc: Global) -> Result<(Command, usize), ReadError<CmdFault>>
-    ensures { Gives result (message_read rest.now) }
+    ensures answer { Gives result (message_read rest.now) }
+    ensures memory { WantsForGood result (message_read rest.now) }
 {
     let len = data_len(rest);
     if len > Sysex::MOST {
@@ -177,10 +178,11 @@ fn message(rest: &[u8], alloc: Global) -> Result<(Command, usize), ReadError<Cmd
 ///
 /// The first octet that shows a fault is told, as `CmdFault` says: `Empty`, `DataOctet` or `BadStatus`
 /// by the status octet, then `BadData`, `TooLong` or `Short` by those behind it. What follows the
-/// command is not looked at.
+/// command is not looked at. Memory is wanted only for a good command.
 #[tactic(auto, unfolding(crate::specs::Reading::command_read, crate::specs::Reading::after_status))]
 pub fn read_command(b: &[u8], alloc: Global) -> Result<(Command, usize), ReadError<CmdFault>>
-    ensures { Gives result (command_read b.now) }
+    ensures answer { Gives result (command_read b.now) }
+    ensures memory { WantsForGood result (command_read b.now) }
 {
     let (status, rest) = match b {
         [] => return Err(ReadError::Fault(CmdFault::Empty)),

@@ -1,9 +1,9 @@
 //! System Exclusive messages.
 
 ghost use Rattle.std.specs.Prelude.{◌≡◌, ◌==◌, ◌≤◌, length, IfOk};
-ghost use Rattle.jm_cmds.specs.Data.{IsSysex, data_len};
+ghost use Rattle.jm_cmds.specs.Data.{IsSysex, data_len, is_kept_message};
 ghost use Rattle.jm_cmds.specs.SysexMade.{sysex_made, unmarked};
-ghost use Rattle.jm_cmds.specs.Gives.{Gives};
+ghost use Rattle.jm_cmds.specs.Gives.{Gives, WantsForGood};
 
 use crate::outcome::ReadError;
 use std::alloc::{AllocError, Global};
@@ -34,6 +34,10 @@ pub enum SysexFault {
     TooLong { len: usize },
 }
 
+/// The most data octets of a System Exclusive message that is kept for repair. A longer one is sent and not repaired,
+/// which is this project's own bound.
+pub const LONGEST_KEPT: usize = 254;
+
 /// A whole System Exclusive message (RFC 6295, Appendix E): at most 2,046 data octets, without the F0
 /// before them and the F7 behind.
 #[derive(Debug, Drop)]
@@ -60,7 +64,8 @@ impl Sysex {
     /// exactly where there are over 2,046 of them.
     #[tactic(auto, using(crate::specs::DataLaws::on_data))]
     pub fn new(octets: &[u8], alloc: Global) -> Result<Sysex, ReadError<SysexFault>>
-        ensures { Gives result (sysex_made octets.now) }
+        ensures answer { Gives result (sysex_made octets.now) }
+        ensures memory { WantsForGood result (sysex_made octets.now) }
     {
         let place = data_len(octets);
         if place < octets.len() {
@@ -109,6 +114,13 @@ impl Sysex {
         ensures bound { result ≤ 2046 }
     {
         self.octets.len()
+    }
+
+    /// Whether it is short enough to be kept for repair: it has at most 254 data octets.
+    pub fn is_kept(&self) -> bool
+        ensures { result ≡ is_kept_message self.now }
+    {
+        self.octets.len() <= LONGEST_KEPT
     }
 
     /// Whether there is no data octet.

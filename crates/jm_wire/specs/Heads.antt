@@ -13,11 +13,11 @@ abbrev pub bit : Bool → ℕ
 bit flag = if flag then 1 else 0
 
 -- the bit of this weight in an octet
-abbrev pub is_set : ℕ → ℕ → Bool
+abbrev pub is_set : (weight octet : ℕ) → Bool
 is_set weight octet = octet / weight % 2 == 1
 
 -- an octet of some octets
-abbrev pub octet : List ℕ → ℕ → ℕ
+abbrev pub octet : List ℕ → (place : ℕ) → ℕ
 octet octets k = slice_index_or octets k 0
 
 -- ## Each field is within its width

@@ -1,3 +1,4 @@
+pub mod Readers
 pub mod Octets
 pub mod Delta
 pub mod DeltaReading

@@ -18,5 +18,5 @@ pub record IsNextWith (near low n : ℕ) : Type 0 where
   pub low_bits : n % 65536 ≡ low
   pub least : (other : ℕ) → near ≤ other → other % 65536 ≡ low → n ≤ other
 
-abbrev pub extend16 : ℕ → ℕ → ℕ
+abbrev pub extend16 : (near low : ℕ) → ℕ
 extend16 near low = near + (low + (65536 - near % 65536)) % 65536

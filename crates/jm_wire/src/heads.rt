@@ -182,14 +182,14 @@ impl ChannelHead {
     }
 }
 
-/// The header of Chapter M (RFC 6295, A.4.1, Figure A.4.1).
+/// The header of Chapter M (RFC 6295, A.4, Figure A.4.1).
 #[derive(Clone, Copy, PartialEq, Eq, Debug)]
 pub struct ParamHead {
     /// No log inside is of the packet before.
     pub s: bool,
-    /// An open transaction's number field is there.
+    /// A PENDING field is there: the number of a parameter of which only a half was selected.
     pub p: bool,
-    /// All log timings are of one kind.
+    /// A transaction is open behind the last log.
     pub e: bool,
     /// The parameters are all registered ones.
     pub u: bool,

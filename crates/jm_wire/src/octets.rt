@@ -1,6 +1,6 @@
 //! A buffer of octets with room that is set once.
 
-ghost use Rattle.std.specs.Prelude.{◌≡◌, ◌+◌, ◌≤◌, ◌<◌, [], ◌∷◌, length, IfOk};
+ghost use Rattle.std.specs.Prelude.{◌≡◌, ◌+◌, ◌≤◌, ◌<◌, [], ◌∷◌, length, drop, IfOk};
 ghost use Rattle.jm_wire.specs.Numbers.{be16, be32, be64};
 
 use std::alloc::{AllocError, Global};
@@ -95,5 +95,15 @@ impl Octets {
         ensures { result.now ≡ self.now.octets }
     {
         self.items.as_slice()
+    }
+}
+
+/// The octets behind the first `count`; none where there are fewer.
+pub fn behind(octets: &[u8], count: usize) -> &[u8]
+    ensures { result.now ≡ drop count octets.now }
+{
+    match octets.get(count..) {
+        Some(rest) => rest,
+        None => &[],
     }
 }

@@ -117,3 +117,58 @@ fn channel_and_chapter_heads(rt: HostRuntime) -> Result<(), Fail> {
     assert_eq!(rt; TimeHead::unpack([0x57]), time);
     Ok(())
 }
+
+/// The examples of variable-length numbers in the Standard MIDI Files specification, each with its field.
+#[test]
+fn fields_of_numbers(rt: HostRuntime) {
+    let cases: [(u32, &[u8]); 12] = [
+        (0, &[0]),
+        (0x40, &[0x40]),
+        (0x7f, &[0x7f]),
+        (0x80, &[0x81, 0]),
+        (0x2000, &[0xc0, 0]),
+        (0x3fff, &[0xff, 0x7f]),
+        (0x4000, &[0x81, 0x80, 0]),
+        (0x10_0000, &[0xc0, 0x80, 0]),
+        (0x1f_ffff, &[0xff, 0xff, 0x7f]),
+        (0x20_0000, &[0x81, 0x80, 0x80, 0]),
+        (0x800_0000, &[0xc0, 0x80, 0x80, 0]),
+        (0xfff_ffff, &[0xff, 0xff, 0xff, 0x7f]),
+    ];
+    for (value, field) in cases {
+        assert_eq!(rt; read_delta(field), Ok((value, field.len())));
+        assert_eq!(rt; delta_len(u64::from(value)), field.len());
+    }
+}
+
+/// Fields without an end, and longer ones of a small number.
+#[test]
+fn odd_fields(rt: HostRuntime) {
+    let cases: [(&[u8], Result<(u32, usize), DeltaFault>); 6] = [
+        (&[], Err(DeltaFault::Short)),
+        (&[0x80], Err(DeltaFault::Short)),
+        (&[0x80, 0xff, 0x80], Err(DeltaFault::Short)),
+        (&[0x80, 0x80, 0x80, 0x80], Err(DeltaFault::TooLong)),
+        (&[0xff, 0xff, 0xff, 0xff, 0], Err(DeltaFault::TooLong)),
+        (&[0x80, 0x80, 0x80, 1, 2], Ok((1, 4))),
+    ];
+    for (octets, field) in cases {
+        assert_eq!(rt; read_delta(octets), field);
+    }
+}
+
+/// The least number from one on with these low 16 bits, at both sides of each bound.
+#[test]
+fn numbers_are_extended(rt: HostRuntime) {
+    let cases: [(u64, u16, u64); 6] = [
+        (0, 0, 0),
+        (0, 0xffff, 0xffff),
+        (5, 5, 5),
+        (5, 4, 0x1_0004),
+        (0xffff, 0, 0x1_0000),
+        (0x1_fff0, 0xffef, 0x2_ffef),
+    ];
+    for (near, low, number) in cases {
+        assert_eq!(rt; extend16(near, low), number);
+    }
+}
