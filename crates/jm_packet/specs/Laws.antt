@@ -5,6 +5,7 @@ use Rattle.jm_packet.specs.declared.header.Header.{Header}
 use Rattle.jm_packet.specs.declared.reading.Front.{Front}
 use Rattle.jm_packet.specs.Header.{header}
 use Rattle.jm_packet.specs.Reading.{packet_read, packet_of}
+use Rattle.jm_packet.specs.Says.{Says}
 
 -- the numbers of a header are within their bits, as they are in each of a program
 pub record IsHeader (h : Header) : Type 0 where
@@ -17,3 +18,7 @@ front_of h = record { number = h.number; tick = h.tick; ssrc = h.ssrc; size = 12
 
 abbrev pub HeadersReadBack : Type 0
 HeadersReadBack = (h : Header) (rest : List ℕ) → IsHeader h → packet_read (header h ++ rest) ≡ packet_of (front_of h) (section_read rest)
+
+-- A packet that is read says of its octets what a good one says, and a fault names what isn't so of them.
+abbrev pub PacketsSay : Type 0
+PacketsSay = (octets : List ℕ) → Says octets (packet_read octets)

@@ -64,3 +64,40 @@ fn the_first_fault_is_told(rt: HostRuntime) -> Result<(), Fail> {
     );
     Ok(())
 }
+
+/// Any payload type from 96 on is taken, with the marker and without it, and none below.
+#[test]
+fn payload_types(rt: HostRuntime) -> Result<(), Fail> {
+    let cases: [(u8, Option<PacketFault>); 8] = [
+        (0x60, None),
+        (0xe0, None),
+        (0x61, None),
+        (0x7f, None),
+        (0xff, None),
+        (0x5f, Some(PacketFault::PayloadType)),
+        (0xdf, Some(PacketFault::PayloadType)),
+        (0x00, Some(PacketFault::PayloadType)),
+    ];
+    for (octet, fault) in cases {
+        let octets = [0x80, octet, 0, 1, 0, 0, 0, 2, 0, 0, 0, 3, 0];
+        assert_eq!(rt; fault_of(&octets, rt.alloc()), fault);
+    }
+    Ok(())
+}
+
+/// The octets before the section are twelve and four for each of at most fifteen contributing sources.
+#[test]
+fn fifteen_sources_are_skipped(rt: HostRuntime) -> Result<(), Fail> {
+    let mut octets = [0xf7u8; 73];
+    octets[0] = 0x8f;
+    octets[1] = 0x61;
+    octets[72] = 0x40;
+    let packet = read_packet(&octets, rt.alloc())?;
+    assert_eq!(rt; (packet.number, packet.ssrc), (0xf7f7, 0xf7f7_f7f7));
+    assert_eq!(rt; packet.journal, Some(73));
+    assert_eq!(rt;
+        fault_of(&octets[..71], rt.alloc()),
+        Some(PacketFault::Short)
+    );
+    Ok(())
+}

@@ -11,7 +11,8 @@ use Rattle.jm_section.specs.declared.item.Item.{Item}
 use Rattle.jm_section.specs.declared.item.What.{What}
 use Rattle.jm_section.specs.declared.reading.SectionFault.{SectionFault}
 use Rattle.jm_section.specs.Grammar.{SpellsWhat, with_status, without_status, passed, passed_long, segment, SpellsDelta, no_field, field}
-use Rattle.jm_section.specs.Reading.{◌>>=◌, what_read, field_read, delta_read, item_read}
+use Rattle.jm_wire.specs.Readers.{◌>>=◌}
+use Rattle.jm_section.specs.Reading.{what_read, field_read, delta_read, item_read}
 use Rattle.jm_section.proofs.Spelled.{what_spelled}
 use Rattle.jm_section.proofs.Found.{IsRunning, ReadsWhat, some_octet, channel_short, what_found}
 

@@ -9,7 +9,8 @@ use Rattle.jm_section.specs.declared.item.What.TheVariants.{Whole, Part, Passed}
 use Rattle.jm_section.specs.declared.reading.SectionFault.{SectionFault}
 use Rattle.jm_section.specs.Running.{running_after}
 use Rattle.jm_section.specs.Grammar.{SpellsDelta, Spells, nothing, one_more, SpellsList, ends_with_item, ends_with_delta, has_field, running_behind, running_from, running_of}
-use Rattle.jm_section.specs.Reading.{◌>>=◌, before_others, item_read, items_read}
+use Rattle.jm_wire.specs.Readers.{◌>>=◌}
+use Rattle.jm_section.specs.Reading.{before_others, item_read, items_read}
 use Rattle.jm_section.proofs.Loop.{with_front, regroup}
 use Rattle.jm_section.proofs.Found.{IsRunning}
 use Rattle.jm_section.proofs.Items.{what_some, item_spelled, field_ends, ReadsItem, item_found, ListEnds, all_read, a_field, list_ends}

@@ -7,7 +7,8 @@ use Rattle.jm_cmds.specs.Gives.{Gives}
 use Rattle.jm_section.specs.declared.item.Item.{Item}
 use Rattle.jm_section.specs.declared.reading.SectionFault.{SectionFault}
 use Rattle.jm_section.specs.Grammar.{running_behind}
-use Rattle.jm_section.specs.Reading.{◌>>=◌, item_read, items_read}
+use Rattle.jm_wire.specs.Readers.{◌>>=◌}
+use Rattle.jm_section.specs.Reading.{item_read, items_read}
 
 abbrev pub failed : {A : Type 0} → ReadError SectionFault → Result A (ReadError SectionFault)
 failed e = Err e

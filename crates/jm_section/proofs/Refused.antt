@@ -15,7 +15,8 @@ use Rattle.jm_section.specs.declared.header.Head.{Head}
 use Rattle.jm_section.specs.declared.reading.SectionFault.{SectionFault}
 use Rattle.jm_section.specs.declared.reading.SectionFault.TheVariants.{Short, NoStatus, BadCommand, BadDelta}
 use Rattle.jm_section.specs.Grammar.{SpellsDelta, Read}
-use Rattle.jm_section.specs.Reading.{◌>>=◌, what_read, field_read, item_read, items_read, head_read, section_read}
+use Rattle.jm_wire.specs.Readers.{◌>>=◌}
+use Rattle.jm_section.specs.Reading.{what_read, field_read, item_read, items_read, head_read, section_read}
 use Rattle.jm_section.specs.Faults.{IsExclusive, IsBadCommand, unended, ended_badly, of_status, under_status, StandsAt, IsShort, IsFault, is_short, bad_delta, no_status, bad_command}
 use Rattle.jm_section.proofs.Spelled.{exclusive_begins, ended, running_begins}
 use Rattle.jm_section.proofs.Items.{delta_spelled, behind_delta, item_read-some}

@@ -11,7 +11,8 @@ use Rattle.jm_section.specs.declared.reading.Section.{Section}
 use Rattle.jm_section.specs.declared.reading.SectionFault.{SectionFault}
 use Rattle.jm_section.specs.declared.reading.SectionFault.TheVariants.{Short}
 use Rattle.jm_section.specs.Grammar.{SpellsHead, short_head, long_head, Read, IsSection}
-use Rattle.jm_section.specs.Reading.{◌>>=◌, GivesBy, items_read, head_of, head_read, section_read, section_view}
+use Rattle.jm_wire.specs.Readers.{◌>>=◌}
+use Rattle.jm_section.specs.Reading.{GivesBy, items_read, head_of, head_read, section_read, section_view}
 use Rattle.jm_section.proofs.Lists.{list_spelled, list_found}
 
 abbrev headed : Head → Result Head SectionFault

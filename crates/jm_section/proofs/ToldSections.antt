@@ -15,7 +15,8 @@ use Rattle.jm_section.specs.declared.reading.Section.{Section}
 use Rattle.jm_section.specs.declared.reading.SectionFault.{SectionFault}
 use Rattle.jm_section.specs.declared.reading.SectionFault.TheVariants.{Short, NoStatus, BadCommand, BadDelta}
 use Rattle.jm_section.specs.Grammar.{nothing, SpellsDelta, has_field, running_behind, running_of}
-use Rattle.jm_section.specs.Reading.{◌>>=◌, GivesBy, before_others, what_read, field_read, delta_read, item_read, items_read, head_read, section_read, section_view}
+use Rattle.jm_wire.specs.Readers.{◌>>=◌}
+use Rattle.jm_section.specs.Reading.{GivesBy, before_others, what_read, field_read, delta_read, item_read, items_read, head_read, section_read, section_view}
 use Rattle.jm_section.specs.Faults.{StandsAt, IsShort, IsFault, IsTold, is_short, bad_delta, no_status, bad_command}
 use Rattle.jm_section.proofs.Items.{ReadsDelta, delta_found, behind_delta, item_read-some, item_read-none, ReadsItem, item_found}
 use Rattle.jm_section.proofs.Lists.{joins, running_from-running, running_from-push, has_field-push, not_back}

@@ -1,6 +1,7 @@
 -- The grammar of command sections (RFC 6295, section 3), apart from reading and writing: which items a
 -- MIDI list spells, by its last item and the running status that stands before it.
-use Rattle.std.specs.Prelude.{◌≡◌, ℕ, ◌+◌, ◌*◌, ◌/◌, ◌%◌, ◌<◌, ◌≤◌, Bool, true, false, ◌||◌, ◌==◌, List, [], ◌∷◌, ◌++◌, length, drop, Option, Some, None, if◌then◌else◌, IsTrue}
+use Rattle.std.specs.Prelude.{◌≡◌, ℕ, ◌+◌, ◌*◌, ◌%◌, ◌<◌, ◌≤◌, Bool, true, false, ◌||◌, ◌==◌, List, [], ◌∷◌, ◌++◌, length, drop, Option, Some, None, if◌then◌else◌, IsTrue}
+use Rattle.jm_wire.specs.Heads.{is_set}
 use Rattle.jm_cmds.specs.declared.commands.Command.{Command}
 use Rattle.jm_cmds.specs.Command.{spelling, status_of, IsCommand}
 use Rattle.jm_cmds.specs.Data.{IsData}
@@ -18,7 +19,7 @@ abbrev pub is_passed : ℕ → Bool
 is_passed octet = octet == 0xf4 || octet == 0xf5 || octet == 0xf9 || octet == 0xfd
 
 -- the first and the last octet of a segment (RFC 6295, section 3.2, Figure 5)
-pub data IsSegment : PartKind → ℕ → ℕ → Type 0 where
+pub data IsSegment : PartKind → (first last : ℕ) → Type 0 where
   first_part : IsSegment First 0xf0 0xf0
   middle_part : IsSegment Middle 0xf7 0xf0
   last_part : IsSegment Last 0xf7 0xf7
@@ -56,7 +57,7 @@ has_field bare [] = if bare then false else true
 has_field bare (item ∷ items) = true
 
 -- what tells the delta of an item: a field, or nothing for 0
-pub data SpellsDelta : Bool → List ℕ → ℕ → Type 0 where
+pub data SpellsDelta : (has_field : Bool) → List ℕ → (delta : ℕ) → Type 0 where
   no_field : SpellsDelta false [] 0
   field : (text : List ℕ) → IsField text → SpellsDelta true text (value text)
 
@@ -73,10 +74,6 @@ pub data SpellsList (bare : Bool) : List ℕ → List Item → Type 0 where
   ends_with_item : (octets : List ℕ) (items : List Item) → Spells bare octets items → SpellsList bare octets items
   ends_with_delta : (front text : List ℕ) (items : List Item) → Spells bare front items → IsTrue (has_field bare items) → IsField text
       → SpellsList bare (front ++ text) items
-
--- whether a flag of this weight is set
-abbrev pub is_set : ℕ → ℕ → Bool
-is_set weight octet = octet / weight % 2 == 1
 
 -- The header (RFC 6295, section 3, Figure 2): the flags B, J, Z and P, and the length of the MIDI list in
 -- four bits, or in twelve where B is set. P says nothing of the octets.

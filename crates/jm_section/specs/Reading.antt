@@ -1,6 +1,7 @@
 -- Reading a section from left to right, with the first fault that is met. Places are counted from the
 -- section's first octet.
 use Rattle.std.specs.Prelude.{◌≡◌, ℕ, zero, suc, ◌+◌, ◌-◌, ◌*◌, ◌%◌, Bool, true, false, ◌||◌, ◌==◌, List, [], ◌∷◌, length, take, drop, slice_index, nat_lt, Option, Some, None, Result, Ok, Err, if◌then◌else◌}
+use Rattle.jm_wire.specs.Heads.{is_set}
 use Rattle.jm_cmds.specs.declared.commands.Command.{Command}
 use Rattle.jm_cmds.specs.declared.reading.CmdFault.{CmdFault}
 use Rattle.jm_cmds.specs.declared.reading.CmdFault.TheVariants as commands
@@ -8,6 +9,7 @@ use Rattle.jm_cmds.specs.declared.outcome.ReadError.{ReadError}
 use Rattle.jm_cmds.specs.declared.outcome.ReadError.TheVariants as errors
 use Rattle.jm_cmds.specs.Data.{data_len}
 use Rattle.jm_cmds.specs.Reading.{command_read}
+use Rattle.jm_wire.specs.Readers.{◌>>=◌}
 use Rattle.jm_wire.specs.declared.delta.DeltaFault.{DeltaFault}
 use Rattle.jm_wire.specs.Delta.{delta_at}
 use Rattle.jm_section.specs.declared.item.Item.{Item}
@@ -16,14 +18,9 @@ use Rattle.jm_section.specs.declared.item.What.TheVariants.{Whole, Part, Passed}
 use Rattle.jm_section.specs.declared.item.PartKind.TheVariants.{First, Middle, Last, Cancel}
 use Rattle.jm_section.specs.declared.reading.SectionFault.{SectionFault}
 use Rattle.jm_section.specs.declared.reading.SectionFault.TheVariants.{Short, NoStatus, BadCommand, BadDelta}
-use Rattle.jm_section.specs.Grammar.{is_passed, running_behind, is_set, Read}
+use Rattle.jm_section.specs.Grammar.{is_passed, running_behind, Read}
 use Rattle.jm_section.specs.declared.header.Head.{Head}
 use Rattle.jm_section.specs.declared.reading.Section.{Section}
-
-infixl 10 ◌>>=◌
-abbrev pub ◌>>=◌ : {A B : Type 0} → Result A SectionFault → (A → Result B SectionFault) → Result B SectionFault
-(Ok x) >>= f = f x
-(Err e) >>= f = Err e
 
 -- What a reader gave, seen by view, is what was meant, unless memory was refused.
 abbrev pub GivesBy : {A B F : Type 0} → (A → B) → Result A (ReadError F) → Result B F → Type 0
@@ -50,12 +47,12 @@ one_less (Ok x) = Ok (x.0, x.1 - 1)
 one_less (Err f) = Err (place_less f)
 
 -- a channel command under running status: it has one data octet or two
-abbrev pub under_running : ℕ → Option ℕ → List ℕ → Result (What × ℕ) SectionFault
+abbrev pub under_running : (place : ℕ) (running : Option ℕ) → List ℕ → Result (What × ℕ) SectionFault
 under_running place None octets = Err (NoStatus place)
 under_running place (Some status) octets = whole place (one_less (command_read (status ∷ take 2 octets)))
 
 -- The item that begins with F0 or F7, has so many data octets, and ends with this octet.
-abbrev pub exclusive_ended : ℕ → List ℕ → ℕ → ℕ → ℕ → Result (What × ℕ) SectionFault
+abbrev pub exclusive_ended : (place : ℕ) → List ℕ → (first count last : ℕ) → Result (What × ℕ) SectionFault
 exclusive_ended place octets first count last =
     if last == 0xf4 then Ok (Part Cancel count, count + 2)
     else (if last == 0xf0 then Ok (Part (if first == 0xf0 then First else Middle) count, count + 2)
@@ -71,7 +68,7 @@ exclusive_read place octets =
     else exclusive_ended place octets (slice_index octets 0) (data_len rest) (slice_index rest (data_len rest))
 
 -- What begins at this place under this running status, and the number of its octets.
-unfoldable pub what_read : ℕ → Option ℕ → List ℕ → Result (What × ℕ) SectionFault
+unfoldable pub what_read : (place : ℕ) (running : Option ℕ) → List ℕ → Result (What × ℕ) SectionFault
 what_read place running octets =
     let first = slice_index octets 0 in
     if nat_lt first 0x80 then under_running place running octets
@@ -83,12 +80,12 @@ abbrev pub field_read : ℕ → Result (ℕ × ℕ) DeltaFault → Result (ℕ �
 field_read place (Ok x) = Ok x
 field_read place (Err f) = Err (BadDelta place)
 
-abbrev pub delta_read : ℕ → Bool → List ℕ → Result (ℕ × ℕ) SectionFault
+abbrev pub delta_read : (place : ℕ) (bare : Bool) → List ℕ → Result (ℕ × ℕ) SectionFault
 delta_read place bare octets = if bare then Ok (0, 0) else field_read place (delta_at octets)
 
 -- The next item and the number of its octets, or none where the list ends, which may be behind a delta
 -- field.
-unfoldable pub item_read : ℕ → Bool → Option ℕ → List ℕ → Result (Option (Item × ℕ)) SectionFault
+unfoldable pub item_read : (place : ℕ) (bare : Bool) (running : Option ℕ) → List ℕ → Result (Option (Item × ℕ)) SectionFault
 item_read place bare running octets =
     if length octets == 0 then Ok None else do
       delta ← delta_read place bare octets
@@ -102,14 +99,14 @@ before_others None others = Ok []
 before_others (Some x) others = others x >>= λ items. Ok (x.0 ∷ items)
 
 -- the items of a list, which are at most n
-unfoldable pub items_read : ℕ → ℕ → Bool → Option ℕ → List ℕ → Result (List Item) SectionFault
+unfoldable pub items_read : (most place : ℕ) (bare : Bool) (running : Option ℕ) → List ℕ → Result (List Item) SectionFault
 items_read zero place bare running octets = Ok []
 items_read (suc n) place bare running octets = do
   next ← item_read place bare running octets
   before_others next (λ x. items_read n (place + x.1) false (running_behind running x.0.what) (drop x.1 octets))
 
 -- the header
-abbrev pub head_of : ℕ → ℕ → ℕ → Head
+abbrev pub head_of : (first size len : ℕ) → Head
 head_of first size len = record { size = size; len = len; journal = is_set 0x40 first; bare = if is_set 0x20 first then false else true }
 
 unfoldable pub head_read : List ℕ → Result Head SectionFault

@@ -11,7 +11,7 @@ use crate::header::read_head;
 use crate::item::{Item, PartKind, What};
 use crate::next::running_after;
 use jm_cmds::{CmdFault, Command, ReadError, Sysex, data_len, read_command};
-use jm_wire::read_delta;
+use jm_wire::{behind, read_delta};
 use std::alloc::Global;
 use thiserror::Error;
 
@@ -223,14 +223,6 @@ fn running_behind(running: Option<u8>, what: &What) -> Option<u8>
         What::Part { .. } => None,
         What::Passed(octet) => running_after(running, *octet),
     }
-}
-
-/// The octets behind the first `used` ones.
-fn behind(b: &[u8], used: usize) -> &[u8]
-    requires { used ≤ length b.now }
-    ensures { result.now ≡ drop used b.now }
-{
-    &b[used..]
 }
 
 /// The entries of a MIDI list that stands at `place`.

@@ -1,19 +1,22 @@
 -- What a command does to a state.
-use Rattle.std.specs.Prelude.{ℕ, ◌+◌, ◌%◌, Bool, List, [], ◌∷◌, Option, Some, None, length, fold, ◌==◌, nat_le, if◌then◌else◌}
+use Rattle.std.specs.Prelude.{ℕ, ◌+◌, ◌%◌, Bool, List, [], ◌∷◌, Option, Some, None, fold, ◌==◌, if◌then◌else◌}
 use Rattle.jm_cmds.specs.declared.commands.Command.{Command}
 use Rattle.jm_cmds.specs.declared.commands.Command.TheVariants.{NoteOff, NoteOn, PolyPressure, Control, Program, Pressure, Wheel, QuarterFrame, SongPosition, SongSelect, TuneRequest, Clock, Start, Continue, Stop, ActiveSensing, SystemReset, Sysex}
 use Rattle.jm_cmds.specs.declared.controls.ControlKind.{ControlKind}
 use Rattle.jm_cmds.specs.declared.controls.ControlKind.TheVariants as kinds
 use Rattle.jm_cmds.specs.declared.param.Param.{Param}
 use Rattle.jm_cmds.specs.declared.selection.Selection.{Selection}
+use Rattle.jm_cmds.specs.declared.pedal.PedalEvent.TheVariants.{Moved}
 use Rattle.jm_cmds.specs.Control.{control_kind, is_reset_message}
+use Rattle.jm_cmds.specs.Data.{is_kept_message}
+use Rattle.jm_cmds.specs.Pedal.{is_on, pedal_step}
 use Rattle.jm_cmds.specs.Selection.{no_selection, selection_with, selected_param}
 use Rattle.jm_cmds.specs.Sequencing.{sequencer_event, sequencer_step}
 use Rattle.jm_cmds.specs.Frames.{frame_event, time_code_step}
 use Rattle.jm_state.specs.declared.channel.ChannelState.{ChannelState}
 use Rattle.jm_state.specs.declared.state.State.{State}
 use Rattle.jm_state.specs.Table.{no_values, value_at, keep_value}
-use Rattle.jm_state.specs.Parts.{no_state, channel_of, with_channel, control_put, half_put, with_song, with_sequencer, with_time_code, with_sysex_count, with_wheel, with_note, with_pressure, with_poly}
+use Rattle.jm_state.specs.Parts.{no_state, channel_of, with_channel, control_put, pedal_at, half_put, with_song, with_sequencer, with_time_code, with_sysex_count, with_wheel, with_note, with_pressure, with_poly}
 
 -- ## A channel
 
@@ -39,7 +42,11 @@ silenced c = record c { notes = no_values; pressure = None }
 -- Control 121
 abbrev pub controllers_reset : ChannelState → ChannelState
 controllers_reset c =
-    record c { controls = controls_left c.controls; selection = None; wheel = None; pressure = None; polys = no_values }
+    record c { controls = controls_left c.controls; toggles = 0; selection = None; wheel = None; pressure = None; polys = no_values }
+
+-- Control 64 moves the pedal: the toggles count where it goes up or down.
+abbrev pub pedal_moved : (value : ℕ) → ChannelState → ChannelState
+pedal_moved value c = record c { toggles = (pedal_step (pedal_at c) (Moved (is_on value))).toggles }
 
 -- what a half of a selection is added to
 abbrev pub selection_from : Option Selection → Selection
@@ -72,6 +79,7 @@ controlled_by (kinds.Silence n) number value c = silenced c
 controlled_by kinds.ResetControllers number value c = controllers_reset c
 controlled_by (kinds.Mode n) number value c = control_put number (Some value) (silenced c)
 controlled_by (kinds.Kept n) number value c = control_put number (Some value) c
+controlled_by kinds.Pedal number value c = control_put number (Some value) (pedal_moved value c)
 controlled_by (kinds.Plain n) number value c = control_put number (Some value) c
 
 abbrev pub controlled : (number value : ℕ) → ChannelState → ChannelState
@@ -83,9 +91,9 @@ controlled number value c = controlled_by (control_kind number) number value c
 abbrev pub sounding : ℕ → Option ℕ
 sounding velocity = if velocity == 0 then None else Some velocity
 
--- A System Exclusive message is counted modulo 256 where it has at most 254 data octets.
+-- A System Exclusive message is counted modulo 256 where it is kept for repair.
 abbrev pub message_counted : State → List ℕ → State
-message_counted s octets = if nat_le (length octets) 254 then with_sysex_count s ((s.sysex_count + 1) % 256) else s
+message_counted s octets = if is_kept_message octets then with_sysex_count s ((s.sysex_count + 1) % 256) else s
 
 -- But where it is a Reset State command, all parts are absent.
 abbrev pub message_applied : State → List ℕ → State

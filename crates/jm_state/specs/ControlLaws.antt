@@ -22,6 +22,7 @@ control_none (kinds.Silence n) = refl
 control_none kinds.ResetControllers = refl
 control_none (kinds.Mode n) = refl
 control_none (kinds.Kept n) = refl
+control_none kinds.Pedal = refl
 control_none (kinds.Plain n) = refl
 
 -- ## What Control 121 leaves
@@ -35,7 +36,7 @@ keep_at from left k number l =
     ]
 
 -- the kept value, by the last number that is kept first
-abbrev left_by : (ks : List ℕ) (number : ℕ) → Option ℕ → Option ℕ
+abbrev pub left_by : (ks : List ℕ) (number : ℕ) → Option ℕ → Option ℕ
 left_by [] number value = None
 left_by (k ∷ ks) number value = cond (eqb k number) value (left_by ks number value)
 
@@ -49,7 +50,7 @@ kept_one from left ks number k h = record {
   value = keep_at from left k number h.inside ∙ rw (h.value) refl;
 }
 
-left_value : (from : List (Option ℕ)) (number : ℕ) → number < 128 → value_at (controls_left from) number ≡ left_by (127 ∷ 126 ∷ 125 ∷ 124 ∷ 122 ∷ 32 ∷ 0 ∷ []) number (value_at from number)
+pub left_value : (from : List (Option ℕ)) (number : ℕ) → number < 128 → value_at (controls_left from) number ≡ left_by (127 ∷ 126 ∷ 125 ∷ 124 ∷ 122 ∷ 32 ∷ 0 ∷ []) number (value_at from number)
 unfolding controls_left
 left_value from number l =
     let t0 : IsLeft from no_values [] number = record { inside = omega (arith, l, length-no_values); value = no_value number l } in
@@ -80,7 +81,7 @@ LeavesControl value number =
 turned : (n k : ℕ) → eqb n k ≡ false → eqb k n ≡ false
 turned n k f = ne_eqb k n (λ e. eqb-false n k f (sym e))
 
-other_control : (value : Option ℕ) (n : ℕ) → n < 128 → AllByRecursion (λ k. eqb n k ≡ false) (127 ∷ 126 ∷ 125 ∷ 124 ∷ 122 ∷ 32 ∷ 0 ∷ 6 ∷ 38 ∷ 96 ∷ 97 ∷ 98 ∷ 99 ∷ 100 ∷ 101 ∷ 120 ∷ 123 ∷ 121 ∷ []) → LeavesControl value n
+other_control : (value : Option ℕ) (n : ℕ) → n < 128 → AllByRecursion (λ k. eqb n k ≡ false) (127 ∷ 126 ∷ 125 ∷ 124 ∷ 122 ∷ 32 ∷ 0 ∷ 6 ∷ 38 ∷ 96 ∷ 97 ∷ 98 ∷ 99 ∷ 100 ∷ 101 ∷ 120 ∷ 123 ∷ 121 ∷ 64 ∷ []) → LeavesControl value n
 unfolding control_kind
 other_control value n l h =
     let top : n ≢ 127 = eqb-false n 127 h.0 in
@@ -88,14 +89,14 @@ other_control value n l h =
     let second : n ≢ 125 = eqb-false n 125 h.1.1.0 in
     let first : n ≢ 124 = eqb-false n 124 h.1.1.1.0 in
     let below : n < 124 = omega (arith, l, top, third, second, first) in
-    rw (lt-leb 124 n below, turned n 127 h.0, turned n 126 h.1.0, turned n 125 h.1.1.0, turned n 124 h.1.1.1.0, turned n 122 h.1.1.1.1.0, turned n 32 h.1.1.1.1.1.0, turned n 0 h.1.1.1.1.1.1.0, h.1.1.1.1.0, h.1.1.1.1.1.0, h.1.1.1.1.1.1.0, h.1.1.1.1.1.1.1.0, h.1.1.1.1.1.1.1.1.0, h.1.1.1.1.1.1.1.1.1.0, h.1.1.1.1.1.1.1.1.1.1.0, h.1.1.1.1.1.1.1.1.1.1.1.0, h.1.1.1.1.1.1.1.1.1.1.1.1.0, h.1.1.1.1.1.1.1.1.1.1.1.1.1.0, h.1.1.1.1.1.1.1.1.1.1.1.1.1.1.0, h.1.1.1.1.1.1.1.1.1.1.1.1.1.1.1.0, h.1.1.1.1.1.1.1.1.1.1.1.1.1.1.1.1.0, h.1.1.1.1.1.1.1.1.1.1.1.1.1.1.1.1.1.0)
+    rw (lt-leb 124 n below, turned n 127 h.0, turned n 126 h.1.0, turned n 125 h.1.1.0, turned n 124 h.1.1.1.0, turned n 122 h.1.1.1.1.0, turned n 32 h.1.1.1.1.1.0, turned n 0 h.1.1.1.1.1.1.0, h.1.1.1.1.0, h.1.1.1.1.1.0, h.1.1.1.1.1.1.0, h.1.1.1.1.1.1.1.0, h.1.1.1.1.1.1.1.1.0, h.1.1.1.1.1.1.1.1.1.0, h.1.1.1.1.1.1.1.1.1.1.0, h.1.1.1.1.1.1.1.1.1.1.1.0, h.1.1.1.1.1.1.1.1.1.1.1.1.0, h.1.1.1.1.1.1.1.1.1.1.1.1.1.0, h.1.1.1.1.1.1.1.1.1.1.1.1.1.1.0, h.1.1.1.1.1.1.1.1.1.1.1.1.1.1.1.0, h.1.1.1.1.1.1.1.1.1.1.1.1.1.1.1.1.0, h.1.1.1.1.1.1.1.1.1.1.1.1.1.1.1.1.1.0, h.1.1.1.1.1.1.1.1.1.1.1.1.1.1.1.1.1.1.0)
     refl
 
 leaves_control : (value : Option ℕ) (number : ℕ) → number < 128 → LeavesControl value number
 unfolding control_kind
 leaves_control value number l =
-    among (LeavesControl value) (127 ∷ 126 ∷ 125 ∷ 124 ∷ 122 ∷ 32 ∷ 0 ∷ 6 ∷ 38 ∷ 96 ∷ 97 ∷ 98 ∷ 99 ∷ 100 ∷ 101 ∷ 120 ∷ 123 ∷ 121 ∷ []) number
-    (refl, (refl, (refl, (refl, (refl, (refl, (refl, (refl, (refl, (refl, (refl, (refl, (refl, (refl, (refl, (refl, (refl, (refl, tt))))))))))))))))))
+    among (LeavesControl value) (127 ∷ 126 ∷ 125 ∷ 124 ∷ 122 ∷ 32 ∷ 0 ∷ 6 ∷ 38 ∷ 96 ∷ 97 ∷ 98 ∷ 99 ∷ 100 ∷ 101 ∷ 120 ∷ 123 ∷ 121 ∷ 64 ∷ []) number
+    (refl, (refl, (refl, (refl, (refl, (refl, (refl, (refl, (refl, (refl, (refl, (refl, (refl, (refl, (refl, (refl, (refl, (refl, (refl, tt)))))))))))))))))))
     (other_control value number l)
 
 -- ## What a controller says of a control
@@ -135,5 +136,7 @@ control_kind_says (kinds.Mode n) number control value c e l full =
     rw e (pair_says (kinds.Mode n) (pair_of number) number control value c.controls e refl (omega (arith, l, full)))
 control_kind_says (kinds.Kept n) number control value c e l full =
     rw e (one_says (kinds.Kept n) number control value c.controls e refl (omega (arith, l, full)))
+control_kind_says kinds.Pedal number control value c e l full =
+    rw e (one_says kinds.Pedal number control value c.controls e refl (omega (arith, l, full)))
 control_kind_says (kinds.Plain n) number control value c e l full =
     rw e (one_says (kinds.Plain n) number control value c.controls e refl (omega (arith, l, full)))

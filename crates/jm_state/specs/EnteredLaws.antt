@@ -1,11 +1,11 @@
 -- Entering one more parameter, and comparing what was entered.
-use Rattle.std.proofs.Common.{◌≡◌, ℕ, ◌-◌, ◌<◌, Bool, true, false, ◌&&◌, Option, Some, None, eqb, List, [], ◌∷◌, ◌++◌, length, ◌⊎◌, inl, inr, refl, ap, sym, ◌∙◌, arith, length-append}
+use Rattle.std.proofs.Common.{◌≡◌, ℕ, ◌-◌, ◌<◌, true, Option, Some, None, eqb, List, [], ◌∷◌, ◌++◌, length, ◌⊎◌, inl, inr, refl, ap, sym, ◌∙◌, arith, length-append}
 use Rattle.std.specs.List.{remove}
 use Rattle.std.specs.Option.{option_eq}
 use Rattle.std.proofs.lemmas.Bool.{cases_Bool, eqb-true, eq-eqb, and_parts}
-use Rattle.std.proofs.Math.Bool.{beq}
 use Rattle.jm_cmds.specs.declared.param.Param.{Param}
 use Rattle.jm_cmds.specs.Param.{same_param}
+use Rattle.jm_cmds.specs.ParamLaws.{same_param-equal}
 use Rattle.jm_state.specs.declared.entered.Entry.{Entry}
 use Rattle.jm_state.specs.declared.entered.Halves.{Halves}
 use Rattle.jm_state.specs.Entered.{latest, no_halves, halves_in, halves_eq, agrees, same_entered}
@@ -24,25 +24,6 @@ latest_room es e n =
     let all : length (es ++ e ∷ []) - 16 ≡ 0 = omega (arith, n, length-append es (e ∷ [])) in rw all refl
 
 -- ## Comparing
-
-beq-true : (a b : Bool) → beq a b ≡ true → a ≡ b
-beq-true true true e = refl
-beq-true true false e = cc
-beq-true false true e = cc
-beq-true false false e = refl
-
-numbered : Bool → ℕ → ℕ → Param
-numbered nrpn high low = record { nrpn = nrpn; high = high; low = low }
-
-same_parts : (m n : Bool) (h i j k : ℕ) → m ≡ n → h ≡ i → j ≡ k → numbered m h j ≡ numbered n i k
-same_parts m n h i j k p q r = cc
-
-pub same_param-equal : (a b : Param) → same_param a b ≡ true → a ≡ b
-unfolding numbered
-same_param-equal a b e =
-    let parts = and_parts (beq a.nrpn b.nrpn && eqb a.high b.high) (eqb a.low b.low) e in
-    let front = and_parts (beq a.nrpn b.nrpn) (eqb a.high b.high) parts.0 in
-    same_parts a.nrpn b.nrpn a.high b.high a.low b.low (beq-true a.nrpn b.nrpn front.0) (eqb-true a.high b.high front.1) (eqb-true a.low b.low parts.1)
 
 option_equal : (a b : Option ℕ) → option_eq eqb a b ≡ true → a ≡ b
 option_equal None None e = refl

@@ -11,7 +11,7 @@ use Rattle.jm_state.specs.declared.channel.ChannelState.{ChannelState}
 use Rattle.jm_state.specs.declared.state.State.{State}
 use Rattle.jm_state.specs.Table.{value_at, keep_value}
 use Rattle.jm_state.specs.Parts.{no_state, no_channel, channel_of, with_channel, controls_by, control_put, pair_of, note_put, poly_put}
-use Rattle.jm_state.specs.Apply.{applied, sounding, controls_left, controlled, controlled_by, program_with, selected_by}
+use Rattle.jm_state.specs.Apply.{applied, sounding, controls_left, controlled, controlled_by, pedal_moved, program_with, selected_by}
 use Rattle.jm_state.specs.Kept.{IsState, IsChannel, length-no_values, length-no_channels, no_channel_at, of_channel, channel_put}
 use Rattle.jm_state.specs.ChannelLaws.{channel_applied, channel_after, message_left, entry_left}
 
@@ -33,6 +33,7 @@ length-controls_left controls =
 length-controls_by : (kind : ControlKind) (number : ℕ) (value : Option ℕ) (controls : List (Option ℕ)) → length (controls_by kind number value controls) ≡ length controls
 length-controls_by (kinds.Mode n) number value controls = length-set (set controls (pair_of number) None) number value ∙ length-set controls (pair_of number) None
 length-controls_by (kinds.Kept n) number value controls = length-set controls number value
+length-controls_by kinds.Pedal number value controls = length-set controls number value
 length-controls_by (kinds.Plain n) number value controls = length-set controls number value
 length-controls_by kind number value controls = refl
 
@@ -65,6 +66,8 @@ controlled_is (kinds.Mode n) number value c is = record {
   polys = is.polys;
 }
 controlled_is (kinds.Kept n) number value c is = control_put_is number (Some value) c is
+controlled_is kinds.Pedal number value c is =
+    control_put_is number (Some value) (pedal_moved value c) (record { controls = is.controls; notes = is.notes; polys = is.polys })
 controlled_is (kinds.Plain n) number value c is = control_put_is number (Some value) c is
 
 of_channel_is : (at channel : ℕ) (change : ChannelState → ChannelState) (c : ChannelState) → IsChannel c → IsChannel (change c) → IsChannel (of_channel at channel change c)

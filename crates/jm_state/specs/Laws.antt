@@ -4,17 +4,18 @@ use Rattle.jm_cmds.specs.declared.param.Param.{Param}
 use Rattle.jm_cmds.specs.Param.{same_param}
 use Rattle.jm_cmds.specs.declared.history.Sent.{Sent}
 use Rattle.jm_cmds.specs.History.{InOrder}
+use Rattle.jm_cmds.specs.Pedal.{pedal_after}
 use Rattle.jm_cmds.specs.Sent.{packet_of}
 use Rattle.jm_state.specs.declared.entered.Entry.{Entry}
 use Rattle.jm_state.specs.Entered.{halves_in, half_set, is_other, entered_with}
 use Rattle.jm_cmds.specs.declared.commands.Command.{Command}
 use Rattle.jm_state.specs.declared.state.State.{State}
-use Rattle.jm_state.specs.Parts.{no_state}
+use Rattle.jm_state.specs.Parts.{no_state, pedal_of}
 use Rattle.jm_state.specs.Apply.{applied}
 use Rattle.jm_state.specs.Kept.{IsState}
 use Rattle.jm_state.specs.PartLaws.{AppliesByPart}
 use Rattle.jm_state.specs.SettingLaws.{SetsAlone, ReadsAsSet}
-use Rattle.jm_state.specs.ReplayLaws.{PlaysAgain}
+use Rattle.jm_state.specs.ReplayLaws.{PlaysAgain, state_behind}
 
 -- The state as a session begins has 16 channels with their tables, and each command keeps them.
 pub record StaysWhole : Type 0 where
@@ -22,7 +23,7 @@ pub record StaysWhole : Type 0 where
   pub goes_on : (s : State) (command : Command) → IsState s → IsState (applied s command)
 
 -- Each part is a last writer: a command sets it, drops it or leaves it, whatever the other parts are. Only a program reads
--- Controls 0 and 32.
+-- Controls 0 and 32, and the toggles Control 64, with which they are the channel's sustain pedal.
 abbrev pub ByPart : Type 0
 ByPart = (s : State) (command : Command) → IsState s → AppliesByPart s command
 
@@ -45,4 +46,8 @@ pub record EntersLast : Type 0 where
 -- For every history in the order of its packets: the commands from a packet on, played once more over what the packets below another
 -- left that isn't earlier, leave what all commands leave.
 abbrev pub CommandsPlayAgain : Type 0
-CommandsPlayAgain = (from upto : ℕ) (sent : List Sent) → InOrder packet_of sent → from ≤ upto → PlaysAgain from upto sent
+CommandsPlayAgain = (checkpoint packet : ℕ) (sent : List Sent) → InOrder packet_of sent → checkpoint ≤ packet → PlaysAgain checkpoint packet sent
+
+-- The pedal of each channel, up or down with its toggles, is the one that the commands of a session leave.
+abbrev pub CountsToggles : Type 0
+CountsToggles = (channel : ℕ) (sent : List Sent) → channel < 16 → pedal_of (state_behind no_state sent) channel ≡ pedal_after channel sent

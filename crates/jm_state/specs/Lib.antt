@@ -13,6 +13,7 @@ pub mod KeptLaws
 pub mod ParamLaws
 pub mod SettingLaws
 pub mod Replay
+pub mod Final
 pub mod ReplayLaws
 pub mod Laws
 pub mod Sameness

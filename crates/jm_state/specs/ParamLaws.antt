@@ -7,9 +7,10 @@ use Rattle.std.proofs.lemmas.List.{take-append-drop, drop-append-le, length-drop
 use Rattle.std.proofs.lemmas.List.Folds.{list_all-append}
 use Rattle.jm_cmds.specs.declared.param.Param.{Param}
 use Rattle.jm_cmds.specs.Param.{same_param}
+use Rattle.jm_cmds.specs.ParamLaws.{same_param-equal}
 use Rattle.jm_state.specs.declared.entered.Entry.{Entry}
 use Rattle.jm_state.specs.Entered.{half_set, halves_in, is_other, with_halves, half_dropped, latest, entered_with}
-use Rattle.jm_state.specs.EnteredLaws.{same_param-equal, latest_room}
+use Rattle.jm_state.specs.EnteredLaws.{latest_room}
 
 beq_self : (b : Bool) → beq b b ≡ true
 beq_self true = refl

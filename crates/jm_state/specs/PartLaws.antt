@@ -1,11 +1,17 @@
 -- What a command says of a part of the state is so.
-use Rattle.std.proofs.Common.{◌≡◌, ℕ, ◌<◌, Bool, true, false, cond, ◌&&◌, ◌||◌, eqb, leb, List, Option, Some, None, length, set, refl, ap, ◌∙◌, inl, inr, arith}
-use Rattle.std.proofs.lemmas.Bool.{cases_Bool}
+use Rattle.std.proofs.Common.{◌≡◌, ℕ, ◌<◌, Bool, true, false, cond, ◌&&◌, ◌||◌, eqb, leb, List, Option, Some, None, length, set, refl, sym, ap, ◌∙◌, inl, inr, arith}
+use Rattle.std.proofs.lemmas.Bool.{cases_Bool, eqb-true, eq-eqb, false≢true}
+use Rattle.std.proofs.Math.Bool.{beq}
 use Rattle.jm_cmds.specs.declared.commands.Command.{Command}
 use Rattle.jm_cmds.specs.declared.commands.Command.TheVariants.{NoteOff, NoteOn, PolyPressure, Control, Program, Pressure, Wheel, SystemReset, Sysex}
 use Rattle.jm_cmds.specs.declared.controls.ControlKind.{ControlKind}
 use Rattle.jm_cmds.specs.declared.controls.ControlKind.TheVariants as kinds
-use Rattle.jm_cmds.specs.Control.{control_kind, is_reset_message, clears_notes, clears_controllers}
+use Rattle.jm_cmds.specs.declared.pedal.Pedal.{Pedal}
+use Rattle.jm_cmds.specs.declared.pedal.PedalEvent.TheVariants.{Moved}
+use Rattle.jm_cmds.specs.ControlLaws.{control_number-control_kind}
+use Rattle.jm_cmds.specs.ParamLaws.{beq-true}
+use Rattle.jm_cmds.specs.Pedal.{is_on, control_pedal, pedal_event, pedal_step, no_pedal}
+use Rattle.jm_cmds.specs.Control.{control_kind, control_number, is_reset_message, clears_notes, clears_controllers}
 use Rattle.jm_cmds.specs.Sequencing.{sequencer_event, sequencer_step}
 use Rattle.jm_cmds.specs.Frames.{frame_event, time_code_step}
 use Rattle.jm_cmds.specs.Selection.{control_command, param_command}
@@ -13,8 +19,8 @@ use Rattle.jm_cmds.specs.declared.param.Param.{Param}
 use Rattle.jm_state.specs.declared.channel.ChannelState.{ChannelState}
 use Rattle.jm_state.specs.declared.state.State.{State}
 use Rattle.jm_state.specs.Table.{value_at}
-use Rattle.jm_state.specs.Parts.{no_channel, channel_of, control_at, control_by, note_put, poly_put, song_of, sequencer_of, time_code_of, sysex_count_of, program_of, control_of, selection_of, entered_of, wheel_of, note_of, pressure_of, poly_of}
-use Rattle.jm_state.specs.Apply.{applied, sounding, controlled, controlled_by, program_with, selected_by, entered_by}
+use Rattle.jm_state.specs.Parts.{no_channel, channel_of, control_at, control_by, pair_of, pedal_by, pedal_at, pedal_of, note_put, poly_put, song_of, sequencer_of, time_code_of, sysex_count_of, program_of, control_of, selection_of, entered_of, wheel_of, note_of, pressure_of, poly_of}
+use Rattle.jm_state.specs.Apply.{applied, sounding, controlled, controlled_by, pedal_moved, program_with, selected_by, entered_by}
 use Rattle.jm_state.specs.Says.{said, ended, song_says, count_after, program_says, control_says, selection_behind, entered_if, entered_behind, wheel_says, note_says, pressure_says, poly_says}
 use Rattle.jm_state.specs.Kept.{IsState, value_set, no_value}
 use Rattle.jm_state.specs.ChannelLaws.{channel_applied, channel_after, message_left, part_said, part_ended, part_left, part_reset, entry_left}
@@ -246,6 +252,104 @@ control_part channel control (Pressure at value) c l full = part_left (λ x. con
 control_part channel control (Wheel at first second) c l full = part_left (λ x. control_at x control) at channel (λ x. record x { wheel = Some (first, second) }) c refl
 control_part channel control command c l full = refl
 
+-- ## The pedal
+
+abbrev is_pedal : ControlKind → Bool
+is_pedal kinds.Pedal = true
+is_pedal _ = false
+
+-- a controller of another kind isn't Control 64
+other_number : (number : ℕ) (kind : ControlKind) → control_kind number ≡ kind → is_pedal kind ≡ false → eqb number 64 ≡ false
+unfolding control_kind
+other_number number kind e f =
+    elim (cases_Bool (eqb number 64)) [
+      | inl t ↦
+          let same : number ≡ 64 = eqb-true number 64 t in
+          let one : is_pedal (control_kind number) ≡ true = ap (λ n. is_pedal (control_kind n)) same in
+          let other : is_pedal (control_kind number) ≡ false = ap is_pedal e ∙ f in
+          absurd (false≢true (sym other ∙ one))
+      | inr g ↦ g
+    ]
+
+other_pair : (number : ℕ) → eqb (pair_of number) 64 ≡ false
+other_pair number =
+    elim (cases_Bool (eqb number 124)) [
+      | inl t ↦ rw t refl
+      | inr f ↦ elim (cases_Bool (eqb number 125)) [
+        | inl t ↦ rw (f, t) refl
+        | inr g ↦ elim (cases_Bool (eqb number 126)) [
+          | inl t ↦ rw (f, g, t) refl
+          | inr h ↦ rw (f, g, h) refl
+        ]
+      ]
+    ]
+
+pedal : (toggles : ℕ) (on : Bool) → Pedal
+pedal toggles on = record { on = on; toggles = toggles }
+
+pedal_of_equals : (toggles : ℕ) (on other : Bool) → on ≡ other → pedal toggles on ≡ pedal toggles other
+pedal_of_equals toggles on other e = cc
+
+-- a pedal that was moved is where it was moved to
+moved_to : (p : Pedal) (on : Bool) → pedal (pedal_step p (Moved on)).toggles on ≡ pedal_step p (Moved on)
+unfolding pedal
+moved_to p on =
+    elim (cases_Bool (beq on p.on)) [
+      | inl t ↦ rw t (pedal_of_equals p.toggles on p.on (beq-true on p.on t))
+      | inr f ↦ rw f refl
+    ]
+
+pedal_kind : (kind : ControlKind) (number value : ℕ) (c : ChannelState) → control_kind number ≡ kind → length c.controls ≡ 128 → pedal_at (controlled_by kind number value c) ≡ pedal_step (pedal_at c) (control_pedal kind value)
+unfolding control_kind pedal
+pedal_kind (kinds.DataEntry high) number value c e full = entry_left pedal_at (selected_by c.selection) high value c (λ p. refl)
+pedal_kind (kinds.Selection nrpn high) number value c e full = refl
+pedal_kind (kinds.Increment n) number value c e full = refl
+pedal_kind (kinds.Silence n) number value c e full = refl
+pedal_kind kinds.ResetControllers number value c e full =
+    ap (pedal_by 0) (control_kind_says kinds.ResetControllers number 64 value c e (omega arith) full)
+pedal_kind (kinds.Mode n) number value c e full =
+    let says = control_kind_says (kinds.Mode n) number 64 value c e (omega arith) full in
+    let same : control_at (controlled_by (kinds.Mode n) number value c) 64 ≡ control_at c 64 = says ∙ rw (other_number number (kinds.Mode n) e refl, other_pair number) refl in
+    ap (pedal_by c.toggles) same
+pedal_kind (kinds.Kept n) number value c e full =
+    let says = control_kind_says (kinds.Kept n) number 64 value c e (omega arith) full in
+    let same : control_at (controlled_by (kinds.Kept n) number value c) 64 ≡ control_at c 64 = says ∙ rw (other_number number (kinds.Kept n) e refl) refl in
+    ap (pedal_by c.toggles) same
+pedal_kind kinds.Pedal number value c e full =
+    let same : 64 ≡ number = sym (ap control_number e) ∙ control_number-control_kind number in
+    let says = control_kind_says kinds.Pedal number 64 value (pedal_moved value c) e (omega arith) full in
+    let set : control_at (controlled_by kinds.Pedal number value c) 64 ≡ Some value = says ∙ rw (eq-eqb number 64 (sym same)) refl in
+    ap (pedal_by (pedal_step (pedal_at c) (Moved (is_on value))).toggles) set
+    ∙ moved_to (pedal_at c) (is_on value)
+pedal_kind (kinds.Plain n) number value c e full =
+    let says = control_kind_says (kinds.Plain n) number 64 value c e (omega arith) full in
+    let same : control_at (controlled_by (kinds.Plain n) number value c) 64 ≡ control_at c 64 = says ∙ rw (other_number number (kinds.Plain n) e refl) refl in
+    ap (pedal_by c.toggles) same
+
+pub no_pedal_at : pedal_at no_channel ≡ no_pedal
+unfolding control_kind
+no_pedal_at = ap (pedal_by 0) (no_value 64 (omega arith))
+
+pedal_part : (channel : ℕ) (command : Command) (c : ChannelState) → length c.controls ≡ 128 → pedal_at (channel_applied channel command c) ≡ pedal_step (pedal_at c) (pedal_event channel command)
+pedal_part channel (Control at number value) c full =
+    elim (cases_Bool (eqb at channel)) [
+      | inl t ↦ rw t (pedal_kind (control_kind number) number value c refl full)
+      | inr f ↦ rw f refl
+    ]
+pedal_part channel (Sysex octets) c full =
+    elim (cases_Bool (is_reset_message octets)) [
+      | inl t ↦ rw t no_pedal_at
+      | inr f ↦ rw f refl
+    ]
+pedal_part channel SystemReset c full = no_pedal_at
+pedal_part channel (NoteOff at note velocity) c full = part_left pedal_at at channel (note_put note None) c refl
+pedal_part channel (NoteOn at note velocity) c full = part_left pedal_at at channel (note_put note (sounding velocity)) c refl
+pedal_part channel (PolyPressure at note value) c full = part_left pedal_at at channel (poly_put note (Some value)) c refl
+pedal_part channel (Program at program) c full = part_left pedal_at at channel (program_with program) c refl
+pedal_part channel (Pressure at value) c full = part_left pedal_at at channel (λ x. record x { pressure = Some value }) c refl
+pedal_part channel (Wheel at first second) c full = part_left pedal_at at channel (λ x. record x { wheel = Some (first, second) }) c refl
+pedal_part channel command c full = refl
+
 -- ## All parts
 
 -- what a command does to each part of a state
@@ -256,6 +360,7 @@ pub record AppliesByPart (s : State) (command : Command) : Type 0 where
   pub sysex_count : sysex_count_of (applied s command) ≡ count_after (sysex_count_of s) command
   pub program : (channel : ℕ) → channel < 16 → program_of (applied s command) channel ≡ said (program_says channel (control_of s channel 0) (control_of s channel 32) command) (program_of s channel)
   pub control : (channel number : ℕ) → channel < 16 → number < 128 → control_of (applied s command) channel number ≡ said (control_says channel number command) (control_of s channel number)
+  pub pedal : (channel : ℕ) → channel < 16 → pedal_of (applied s command) channel ≡ pedal_step (pedal_of s channel) (pedal_event channel command)
   pub selection : (channel : ℕ) → channel < 16 → selection_of (applied s command) channel ≡ selection_behind (selection_of s channel) (param_command channel command)
   pub entered : (channel : ℕ) → channel < 16 → entered_of (applied s command) channel ≡ entered_behind (selected_by (selection_of s channel)) (param_command channel command) (entered_of s channel)
   pub wheel : (channel : ℕ) → channel < 16 → wheel_of (applied s command) channel ≡ said (wheel_says channel command) (wheel_of s channel)
@@ -271,6 +376,7 @@ by_part s command is = record {
   sysex_count = count_behind s command;
   program = λ channel l. ap (λ c. c.program) (channel_after s command channel is l) ∙ program_part channel command (channel_of s channel);
   control = λ channel number l m. ap (λ c. control_at c number) (channel_after s command channel is l) ∙ control_part channel number command (channel_of s channel) m (is.channels channel l).controls;
+  pedal = λ channel l. ap pedal_at (channel_after s command channel is l) ∙ pedal_part channel command (channel_of s channel) (is.channels channel l).controls;
   selection = λ channel l. ap (λ c. c.selection) (channel_after s command channel is l) ∙ selection_part channel command (channel_of s channel);
   entered = λ channel l. ap (λ c. c.entered) (channel_after s command channel is l) ∙ entered_part channel command (channel_of s channel);
   wheel = λ channel l. ap (λ c. c.wheel) (channel_after s command channel is l) ∙ wheel_part channel command (channel_of s channel);

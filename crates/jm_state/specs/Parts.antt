@@ -1,12 +1,14 @@
 -- The parts of a state: what is read of each, and the state with another value for one.
-use Rattle.std.specs.Prelude.{ℕ, Bool, true, false, List, [], Option, None, ◌==◌, if◌then◌else◌, slice_index_or, slice_set, replicate}
+use Rattle.std.specs.Prelude.{ℕ, Bool, true, false, List, [], Option, Some, None, ◌==◌, if◌then◌else◌, slice_index_or, slice_set, replicate}
 use Rattle.jm_cmds.specs.declared.controls.ControlKind.{ControlKind}
-use Rattle.jm_cmds.specs.declared.controls.ControlKind.TheVariants.{Mode, Kept, Plain}
+use Rattle.jm_cmds.specs.declared.controls.ControlKind.TheVariants.{Mode, Kept, Pedal as PedalKind, Plain}
 use Rattle.jm_cmds.specs.declared.param.Param.{Param}
+use Rattle.jm_cmds.specs.declared.pedal.Pedal.{Pedal}
 use Rattle.jm_cmds.specs.declared.selection.Selection.{Selection as Selected}
 use Rattle.jm_cmds.specs.declared.sequencing.SequencerPart.{SequencerPart}
 use Rattle.jm_cmds.specs.declared.frames.TimePart.{TimePart}
 use Rattle.jm_cmds.specs.Control.{control_kind}
+use Rattle.jm_cmds.specs.Pedal.{is_on}
 use Rattle.jm_state.specs.declared.channel.ProgramPart.{ProgramPart}
 use Rattle.jm_state.specs.declared.channel.ChannelState.{ChannelState}
 use Rattle.jm_state.specs.declared.entered.Halves.{Halves}
@@ -18,7 +20,7 @@ use Rattle.jm_state.specs.Entered.{halves_in, entered_with}
 -- ## Nothing
 
 abbrev pub no_channel : ChannelState
-no_channel = record { program = None; controls = no_values; selection = None; entered = []; wheel = None; notes = no_values; pressure = None; polys = no_values }
+no_channel = record { program = None; controls = no_values; toggles = 0; selection = None; entered = []; wheel = None; notes = no_values; pressure = None; polys = no_values }
 
 unfoldable pub no_channels : List ChannelState
 no_channels = replicate 16 no_channel
@@ -48,6 +50,7 @@ pair_of mode = if mode == 124 then 125 else (if mode == 125 then 124 else (if mo
 abbrev pub control_by : ControlKind → Option ℕ → Option ℕ
 control_by (Mode number) value = value
 control_by (Kept number) value = value
+control_by PedalKind value = value
 control_by (Plain number) value = value
 control_by _ value = None
 
@@ -58,11 +61,26 @@ control_at c number = control_by (control_kind number) (value_at c.controls numb
 abbrev pub controls_by : ControlKind → ℕ → Option ℕ → List (Option ℕ) → List (Option ℕ)
 controls_by (Mode mode) number value controls = slice_set (slice_set controls (pair_of number) None) number value
 controls_by (Kept kept) number value controls = slice_set controls number value
+controls_by PedalKind number value controls = slice_set controls number value
 controls_by (Plain plain) number value controls = slice_set controls number value
 controls_by _ number value controls = controls
 
 abbrev pub control_put : ℕ → Option ℕ → ChannelState → ChannelState
 control_put number value c = record c { controls = controls_by (control_kind number) number value c.controls }
+
+-- ## The pedal
+
+-- It is down where Control 64 is there with a value of 64 to 127.
+abbrev pub is_down : (pedal : Option ℕ) → Bool
+is_down None = false
+is_down (Some value) = is_on value
+
+abbrev pub pedal_by : (toggles : ℕ) → (pedal : Option ℕ) → Pedal
+pedal_by toggles pedal = record { on = is_down pedal; toggles = toggles }
+
+-- the sustain pedal of a channel, by its toggles and Control 64
+abbrev pub pedal_at : ChannelState → Pedal
+pedal_at c = pedal_by c.toggles (control_at c 64)
 
 -- ## Reads
 
@@ -85,6 +103,12 @@ program_of s channel = (channel_of s channel).program
 abbrev pub control_of : State → (channel number : ℕ) → Option ℕ
 control_of s channel number = control_at (channel_of s channel) number
 
+abbrev pub toggles_of : State → ℕ → ℕ
+toggles_of s channel = (channel_of s channel).toggles
+
+abbrev pub pedal_of : State → ℕ → Pedal
+pedal_of s channel = pedal_at (channel_of s channel)
+
 abbrev pub selection_of : State → ℕ → Option Selected
 selection_of s channel = (channel_of s channel).selection
 
@@ -92,7 +116,7 @@ selection_of s channel = (channel_of s channel).selection
 abbrev pub entered_of : State → ℕ → List Entry
 entered_of s channel = (channel_of s channel).entered
 
-abbrev pub param_of : State → ℕ → Bool → (high low : ℕ) → Halves
+abbrev pub param_of : State → (channel : ℕ) → (nrpn : Bool) → (high low : ℕ) → Halves
 param_of s channel nrpn high low = halves_in (entered_of s channel) (record { nrpn = nrpn; high = high; low = low })
 
 abbrev pub wheel_of : State → ℕ → Option (ℕ × ℕ)
@@ -124,8 +148,11 @@ with_sysex_count s count = record s { sysex_count = count }
 abbrev pub with_program : State → ℕ → Option ProgramPart → State
 with_program s channel value = with_channel s channel (record (channel_of s channel) { program = value })
 
-abbrev pub with_control : State → (channel number : ℕ) → Option ℕ → State
+abbrev pub with_control : State → (channel number : ℕ) → (value : Option ℕ) → State
 with_control s channel number value = with_channel s channel (control_put number value (channel_of s channel))
+
+abbrev pub with_toggles : State → (channel count : ℕ) → State
+with_toggles s channel count = with_channel s channel (record (channel_of s channel) { toggles = count })
 
 abbrev pub with_selection : State → ℕ → Option Selected → State
 with_selection s channel value = with_channel s channel (record (channel_of s channel) { selection = value })
@@ -134,11 +161,11 @@ with_selection s channel value = with_channel s channel (record (channel_of s ch
 abbrev pub half_put : Bool → Param → Option ℕ → ChannelState → ChannelState
 half_put high p value c = record c { entered = entered_with high p value c.entered }
 
-abbrev pub with_param_high : State → ℕ → Bool → (high low : ℕ) → Option ℕ → State
+abbrev pub with_param_high : State → (channel : ℕ) → (nrpn : Bool) → (high low : ℕ) → (value : Option ℕ) → State
 with_param_high s channel nrpn high low value =
     with_channel s channel (half_put true (record { nrpn = nrpn; high = high; low = low }) value (channel_of s channel))
 
-abbrev pub with_param_low : State → ℕ → Bool → (high low : ℕ) → Option ℕ → State
+abbrev pub with_param_low : State → (channel : ℕ) → (nrpn : Bool) → (high low : ℕ) → (value : Option ℕ) → State
 with_param_low s channel nrpn high low value =
     with_channel s channel (half_put false (record { nrpn = nrpn; high = high; low = low }) value (channel_of s channel))
 
@@ -148,7 +175,7 @@ with_wheel s channel value = with_channel s channel (record (channel_of s channe
 abbrev pub note_put : ℕ → Option ℕ → ChannelState → ChannelState
 note_put note value c = record c { notes = slice_set c.notes note value }
 
-abbrev pub with_note : State → (channel note : ℕ) → Option ℕ → State
+abbrev pub with_note : State → (channel note : ℕ) → (value : Option ℕ) → State
 with_note s channel note value = with_channel s channel (note_put note value (channel_of s channel))
 
 abbrev pub with_pressure : State → ℕ → Option ℕ → State
@@ -157,5 +184,5 @@ with_pressure s channel value = with_channel s channel (record (channel_of s cha
 abbrev pub poly_put : ℕ → Option ℕ → ChannelState → ChannelState
 poly_put note value c = record c { polys = slice_set c.polys note value }
 
-abbrev pub with_poly : State → (channel note : ℕ) → Option ℕ → State
+abbrev pub with_poly : State → (channel note : ℕ) → (value : Option ℕ) → State
 with_poly s channel note value = with_channel s channel (poly_put note value (channel_of s channel))

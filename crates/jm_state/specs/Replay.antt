@@ -11,7 +11,7 @@ use Rattle.jm_state.specs.Says.{said}
 -- ## What the last one says
 
 -- what a later one says, or else what an earlier one does
-abbrev over : {V : Type 0} → (later earlier : Option (Option V)) → Option (Option V)
+abbrev pub over : {V : Type 0} → (later earlier : Option (Option V)) → Option (Option V)
 over None earlier = earlier
 over (Some value) earlier = Some value
 
@@ -23,7 +23,7 @@ latest says old xs = fold (λ v x. said (says x) v) old xs
 abbrev heard : {X V : Type 0} → (X → Option (Option V)) → Option (Option V) → List X → Option (Option V)
 heard says before xs = fold (λ h x. over (says x) h) before xs
 
-said-over : {V : Type 0} (later earlier : Option (Option V)) (old : Option V) → said later (said earlier old) ≡ said (over later earlier) old
+pub said-over : {V : Type 0} (later earlier : Option (Option V)) (old : Option V) → said later (said earlier old) ≡ said (over later earlier) old
 said-over None earlier old = refl
 said-over (Some value) earlier old = refl
 
@@ -70,34 +70,34 @@ in_two at p (x ∷ xs) o =
           let not_since : leb p (at x) ≡ false = lt-leb p (at x) under in
           rw (t, not_since) (ap (λ l. x ∷ l) (in_two at p xs o.1))
       | inr f ↦
-          let from : p ≤ at x = ltb-false (at x) p f in
-          let later : AllByRecursion (λ y. ltb (at y) p ≡ false) xs = AllByRecursion-weaker (λ y. at x ≤ at y) (λ y. ltb (at y) p ≡ false) (λ y h. le-ltb (at y) p (omega (arith, h, from))) xs o.0 in
-          let all : AllByRecursion (λ y. p ≤ at y) xs = AllByRecursion-weaker (λ y. at x ≤ at y) (λ y. p ≤ at y) (λ y h. omega (arith, h, from)) xs o.0 in
-          rw (f, le-leb p (at x) from, filter_none (λ y. ltb (at y) p) xs later) (ap (λ l. x ∷ l) (sym (since_all at p xs all)))
+          let begins : p ≤ at x = ltb-false (at x) p f in
+          let later : AllByRecursion (λ y. ltb (at y) p ≡ false) xs = AllByRecursion-weaker (λ y. at x ≤ at y) (λ y. ltb (at y) p ≡ false) (λ y h. le-ltb (at y) p (omega (arith, h, begins))) xs o.0 in
+          let all : AllByRecursion (λ y. p ≤ at y) xs = AllByRecursion-weaker (λ y. at x ≤ at y) (λ y. p ≤ at y) (λ y h. omega (arith, h, begins)) xs o.0 in
+          rw (f, le-leb p (at x) begins, filter_none (λ y. ltb (at y) p) xs later) (ap (λ l. x ∷ l) (sym (since_all at p xs all)))
     ]
 
 both-latest : {X V : Type 0} (says : X → Option (Option V)) (old : Option V) (xs ys : List X) → latest says old (xs ++ ys) ≡ latest says (latest says old xs) ys
 both-latest says old xs ys = fold-append (λ v x. said (says x) v) old xs ys
 
-earlier : {X : Type 0} (at : X → ℕ) (from upto : ℕ) → from ≤ upto → (x : X) → ltb (at x) from ≡ true → ltb (at x) upto ≡ true
-earlier at from upto l x h = let under : at x < from = ltb-true (at x) from h in lt-ltb (at x) upto (omega (arith, under, l))
+earlier : {X : Type 0} (at : X → ℕ) (checkpoint packet : ℕ) → checkpoint ≤ packet → (x : X) → ltb (at x) checkpoint ≡ true → ltb (at x) packet ≡ true
+earlier at checkpoint packet l x h = let under : at x < checkpoint = ltb-true (at x) checkpoint h in lt-ltb (at x) packet (omega (arith, under, l))
 
 -- Behind the packets below one, those from another on that isn't later, played again, leave what all leave.
-pub replay : {X V : Type 0} (says : X → Option (Option V)) (at : X → ℕ) (from upto : ℕ) (old : Option V) (xs : List X) → InOrder at xs → from ≤ upto →
-    latest says (latest says old (below at upto xs)) (since at from xs) ≡ latest says old xs
-replay says at from upto old xs o l =
-    let a = below at from xs in
-    let s = since at from xs in
-    let u = below at upto xs in
-    let b = below at upto s in
-    let c = since at upto s in
-    let first : latest says old xs ≡ latest says (latest says old a) s = ap (latest says old) (in_two at from xs o) ∙ both-latest says old a s in
-    let u_two : u ≡ below at from u ++ since at from u = in_two at from u (InOrder-filter at (λ x. ltb (at x) upto) xs o) in
-    let u_front : below at from u ≡ a = filter-filter (λ x. ltb (at x) upto) (λ x. ltb (at x) from) (earlier at from upto l) xs in
-    let u_back : since at from u ≡ b = filter-swap (λ x. leb from (at x)) (λ x. ltb (at x) upto) xs in
-    let s_two : s ≡ b ++ c = in_two at upto s (InOrder-filter at (λ x. leb from (at x)) xs o) in
+pub replay : {X V : Type 0} (says : X → Option (Option V)) (at : X → ℕ) (checkpoint packet : ℕ) (old : Option V) (xs : List X) → InOrder at xs → checkpoint ≤ packet →
+    latest says (latest says old (below at packet xs)) (since at checkpoint xs) ≡ latest says old xs
+replay says at checkpoint packet old xs o l =
+    let a = below at checkpoint xs in
+    let s = since at checkpoint xs in
+    let u = below at packet xs in
+    let b = below at packet s in
+    let c = since at packet s in
+    let first : latest says old xs ≡ latest says (latest says old a) s = ap (latest says old) (in_two at checkpoint xs o) ∙ both-latest says old a s in
+    let u_two : u ≡ below at checkpoint u ++ since at checkpoint u = in_two at checkpoint u (InOrder-filter at (λ x. ltb (at x) packet) xs o) in
+    let u_front : below at checkpoint u ≡ a = filter-filter (λ x. ltb (at x) packet) (λ x. ltb (at x) checkpoint) (earlier at checkpoint packet l) xs in
+    let u_back : since at checkpoint u ≡ b = filter-swap (λ x. leb checkpoint (at x)) (λ x. ltb (at x) packet) xs in
+    let s_two : s ≡ b ++ c = in_two at packet s (InOrder-filter at (λ x. leb checkpoint (at x)) xs o) in
     let front : latest says old u ≡ latest says (latest says old a) b =
-    ap (latest says old) u_two ∙ both-latest says old (below at from u) (since at from u) ∙ rw (u_front, u_back) refl in
+    ap (latest says old) u_two ∙ both-latest says old (below at checkpoint u) (since at checkpoint u) ∙ rw (u_front, u_back) refl in
     let v = latest says old a in
     let over_b : latest says (latest says v b) s ≡ latest says (latest says (latest says v b) b) c = ap (latest says (latest says v b)) s_two ∙ both-latest says (latest says v b) b c in
     let v_s : latest says v s ≡ latest says (latest says v b) c = ap (latest says v) s_two ∙ both-latest says v b c in

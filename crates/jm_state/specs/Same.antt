@@ -6,7 +6,7 @@ use Rattle.jm_state.specs.declared.channel.ChannelState.{ChannelState}
 use Rattle.jm_state.specs.declared.state.State.{State}
 use Rattle.jm_state.specs.Table.{value_at}
 use Rattle.jm_state.specs.Entered.{halves_in}
-use Rattle.jm_state.specs.Parts.{control_at, song_of, sequencer_of, time_code_of, sysex_count_of, program_of, control_of, selection_of, param_of, wheel_of, note_of, pressure_of, poly_of}
+use Rattle.jm_state.specs.Parts.{control_at, song_of, sequencer_of, time_code_of, sysex_count_of, program_of, control_of, selection_of, param_of, toggles_of, wheel_of, note_of, pressure_of, poly_of}
 
 -- selections with equal fields are equal
 selection : Bool → (rpn_high rpn_low nrpn_high nrpn_low : Option ℕ) → Selection
@@ -24,6 +24,7 @@ selection_equal s t k a b c d =
 pub record SameChannel (a b : ChannelState) : Type 0 where
   pub program : a.program ≡ b.program
   pub control : (number : ℕ) → number < 128 → control_at a number ≡ control_at b number
+  pub toggles : a.toggles ≡ b.toggles
   pub selection : a.selection ≡ b.selection
   pub param : (p : Param) → halves_in a.entered p ≡ halves_in b.entered p
   pub wheel : a.wheel ≡ b.wheel
@@ -39,6 +40,7 @@ pub record AreSame (s t : State) : Type 0 where
   pub sysex_count : sysex_count_of s ≡ sysex_count_of t
   pub program : (channel : ℕ) → channel < 16 → program_of s channel ≡ program_of t channel
   pub control : (channel number : ℕ) → channel < 16 → number < 128 → control_of s channel number ≡ control_of t channel number
+  pub toggles : (channel : ℕ) → channel < 16 → toggles_of s channel ≡ toggles_of t channel
   pub selection : (channel : ℕ) → channel < 16 → selection_of s channel ≡ selection_of t channel
   pub param : (channel : ℕ) (nrpn : Bool) (high low : ℕ) → channel < 16 → param_of s channel nrpn high low ≡ param_of t channel nrpn high low
   pub wheel : (channel : ℕ) → channel < 16 → wheel_of s channel ≡ wheel_of t channel

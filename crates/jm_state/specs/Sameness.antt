@@ -6,6 +6,7 @@ use Rattle.std.proofs.Math.Bool.{beq}
 use Rattle.jm_cmds.specs.declared.selection.Selection.{Selection}
 use Rattle.jm_cmds.specs.declared.sequencing.SequencerPart.{SequencerPart}
 use Rattle.jm_cmds.specs.declared.frames.TimePart.{TimePart}
+use Rattle.jm_cmds.specs.ParamLaws.{beq-true}
 use Rattle.jm_state.specs.declared.channel.ProgramPart.{ProgramPart}
 use Rattle.jm_state.specs.declared.channel.ChannelState.{ChannelState}
 use Rattle.jm_state.specs.declared.state.State.{State}
@@ -49,8 +50,8 @@ controls_eq a b = all_below 128 (λ n. option_eq eqb (control_at a n) (control_a
 
 unfoldable pub channel_eq : ChannelState → ChannelState → Bool
 channel_eq a b =
-    option_eq program_eq a.program b.program && (controls_eq a b && (option_eq selection_eq a.selection b.selection && (same_entered a.entered b.entered
-    && (option_eq pair_eq a.wheel b.wheel && (values_eq a.notes b.notes && (option_eq eqb a.pressure b.pressure && values_eq a.polys b.polys))))))
+    eqb a.toggles b.toggles && (option_eq program_eq a.program b.program && (controls_eq a b && (option_eq selection_eq a.selection b.selection
+    && (same_entered a.entered b.entered && (option_eq pair_eq a.wheel b.wheel && (values_eq a.notes b.notes && (option_eq eqb a.pressure b.pressure && values_eq a.polys b.polys)))))))
 
 -- All parts of both states are equal. The order in which parameters were entered doesn't count.
 unfoldable pub same_states : State → State → Bool
@@ -59,12 +60,6 @@ same_states s t =
     && all_below 16 (λ channel. channel_eq (channel_of s channel) (channel_of t channel)))))
 
 -- ## Equality
-
-beq_true : (a b : Bool) → beq a b ≡ true → a ≡ b
-beq_true true true e = refl
-beq_true true false e = cc
-beq_true false true e = cc
-beq_true false false e = refl
 
 beq_self : (a : Bool) → beq a a ≡ true
 beq_self true = refl
@@ -125,7 +120,7 @@ selection_true a b e =
     let q = and_parts (option_eq eqb a.rpn_high b.rpn_high) (option_eq eqb a.rpn_low b.rpn_low && (option_eq eqb a.nrpn_high b.nrpn_high && option_eq eqb a.nrpn_low b.nrpn_low)) p.1 in
     let r = and_parts (option_eq eqb a.rpn_low b.rpn_low) (option_eq eqb a.nrpn_high b.nrpn_high && option_eq eqb a.nrpn_low b.nrpn_low) q.1 in
     let s = and_parts (option_eq eqb a.nrpn_high b.nrpn_high) (option_eq eqb a.nrpn_low b.nrpn_low) r.1 in
-    selection_equal a b (beq_true a.nrpn b.nrpn p.0) (number_true a.rpn_high b.rpn_high q.0) (number_true a.rpn_low b.rpn_low r.0) (number_true a.nrpn_high b.nrpn_high s.0) (number_true a.nrpn_low b.nrpn_low s.1)
+    selection_equal a b (beq-true a.nrpn b.nrpn p.0) (number_true a.rpn_high b.rpn_high q.0) (number_true a.rpn_low b.rpn_low r.0) (number_true a.nrpn_high b.nrpn_high s.0) (number_true a.nrpn_low b.nrpn_low s.1)
 
 selection_self : (a : Selection) → selection_eq a a ≡ true
 selection_self a = rw (beq_self a.nrpn, number_self a.rpn_high, number_self a.rpn_low, number_self a.nrpn_high, number_self a.nrpn_low) refl
@@ -141,7 +136,7 @@ unfolding sequencer
 sequencer_true a b e =
     let p = and_parts (beq a.running b.running) (beq a.downbeat b.downbeat && eqb a.position b.position) e in
     let q = and_parts (beq a.downbeat b.downbeat) (eqb a.position b.position) p.1 in
-    sequencer_of_equals a.running b.running a.downbeat b.downbeat a.position b.position (beq_true a.running b.running p.0) (beq_true a.downbeat b.downbeat q.0) (eqb-true a.position b.position q.1)
+    sequencer_of_equals a.running b.running a.downbeat b.downbeat a.position b.position (beq-true a.running b.running p.0) (beq-true a.downbeat b.downbeat q.0) (eqb-true a.position b.position q.1)
 
 sequencer_self : (a : SequencerPart) → sequencer_eq a a ≡ true
 sequencer_self a = rw (beq_self a.running, beq_self a.downbeat, eqb_self a.position) refl
@@ -158,7 +153,7 @@ time_true a b e =
     let p = and_parts (option_eq eqb a.complete b.complete) (option_eq eqb a.partial b.partial && (beq a.backward b.backward && eqb a.point b.point)) e in
     let q = and_parts (option_eq eqb a.partial b.partial) (beq a.backward b.backward && eqb a.point b.point) p.1 in
     let r = and_parts (beq a.backward b.backward) (eqb a.point b.point) q.1 in
-    time_of_equals a.complete b.complete a.partial b.partial a.backward b.backward a.point b.point (number_true a.complete b.complete p.0) (number_true a.partial b.partial q.0) (beq_true a.backward b.backward r.0) (eqb-true a.point b.point r.1)
+    time_of_equals a.complete b.complete a.partial b.partial a.backward b.backward a.point b.point (number_true a.complete b.complete p.0) (number_true a.partial b.partial q.0) (beq-true a.backward b.backward r.0) (eqb-true a.point b.point r.1)
 
 time_self : (a : TimePart) → time_eq a a ≡ true
 time_self a = rw (number_self a.complete, number_self a.partial, beq_self a.backward, eqb_self a.point) refl
@@ -188,7 +183,8 @@ below_all (suc n) p h = rw (h n (omega arith), below_all n p (λ k less. h k (om
 channel_parts : (a b : ChannelState) → channel_eq a b ≡ true → SameChannel a b
 unfolding channel_eq
 channel_parts a b e =
-    let p = and_parts (option_eq program_eq a.program b.program) (controls_eq a b && (option_eq selection_eq a.selection b.selection && (same_entered a.entered b.entered && (option_eq pair_eq a.wheel b.wheel && (values_eq a.notes b.notes && (option_eq eqb a.pressure b.pressure && values_eq a.polys b.polys)))))) e in
+    let o = and_parts (eqb a.toggles b.toggles) (option_eq program_eq a.program b.program && (controls_eq a b && (option_eq selection_eq a.selection b.selection && (same_entered a.entered b.entered && (option_eq pair_eq a.wheel b.wheel && (values_eq a.notes b.notes && (option_eq eqb a.pressure b.pressure && values_eq a.polys b.polys))))))) e in
+    let p = and_parts (option_eq program_eq a.program b.program) (controls_eq a b && (option_eq selection_eq a.selection b.selection && (same_entered a.entered b.entered && (option_eq pair_eq a.wheel b.wheel && (values_eq a.notes b.notes && (option_eq eqb a.pressure b.pressure && values_eq a.polys b.polys)))))) o.1 in
     let q = and_parts (controls_eq a b) (option_eq selection_eq a.selection b.selection && (same_entered a.entered b.entered && (option_eq pair_eq a.wheel b.wheel && (values_eq a.notes b.notes && (option_eq eqb a.pressure b.pressure && values_eq a.polys b.polys))))) p.1 in
     let r = and_parts (option_eq selection_eq a.selection b.selection) (same_entered a.entered b.entered && (option_eq pair_eq a.wheel b.wheel && (values_eq a.notes b.notes && (option_eq eqb a.pressure b.pressure && values_eq a.polys b.polys)))) q.1 in
     let s = and_parts (same_entered a.entered b.entered) (option_eq pair_eq a.wheel b.wheel && (values_eq a.notes b.notes && (option_eq eqb a.pressure b.pressure && values_eq a.polys b.polys))) r.1 in
@@ -198,6 +194,7 @@ channel_parts a b e =
     record {
       program = option_true program_eq program_true a.program b.program p.0;
       control = λ number h. number_true (control_at a number) (control_at b number) (below_true 128 (λ n. option_eq eqb (control_at a n) (control_at b n)) q.0 number h);
+      toggles = eqb-true a.toggles b.toggles o.0;
       selection = option_true selection_eq selection_true a.selection b.selection r.0;
       param = entered_equal a.entered b.entered s.0;
       wheel = option_true pair_eq pair_true a.wheel b.wheel t.0;
@@ -215,7 +212,7 @@ parts_channel a b h =
     let controls : controls_eq a b ≡ true = below_all 128 (λ n. option_eq eqb (control_at a n) (control_at b n)) (λ n less. equal_number (control_at a n) (control_at b n) (h.control n less)) in
     let notes : values_eq a.notes b.notes ≡ true = below_all 128 (λ n. option_eq eqb (value_at a.notes n) (value_at b.notes n)) (λ n less. equal_number (value_at a.notes n) (value_at b.notes n) (h.note n less)) in
     let polys : values_eq a.polys b.polys ≡ true = below_all 128 (λ n. option_eq eqb (value_at a.polys n) (value_at b.polys n)) (λ n less. equal_number (value_at a.polys n) (value_at b.polys n) (h.poly n less)) in
-    rw (controls, notes, polys, equal_entered a.entered b.entered h.param, h.program, h.selection, h.wheel, h.pressure, option_self program_eq program_self b.program, option_self selection_eq selection_self b.selection, option_self pair_eq pair_self b.wheel, number_self b.pressure) refl
+    rw (controls, notes, polys, equal_entered a.entered b.entered h.param, h.toggles, h.program, h.selection, h.wheel, h.pressure, eqb_self b.toggles, option_self program_eq program_self b.program, option_self selection_eq selection_self b.selection, option_self pair_eq pair_self b.wheel, number_self b.pressure) refl
 
 -- what two states have apart from their channels
 record SameSession (s t : State) : Type 0 where
@@ -251,6 +248,7 @@ states_parts s t e =
       sysex_count = all.sysex_count;
       program = λ channel h. (all.channel channel h).program;
       control = λ channel number h. (all.channel channel h).control number;
+      toggles = λ channel h. (all.channel channel h).toggles;
       selection = λ channel h. (all.channel channel h).selection;
       param = λ channel nrpn high low h. (all.channel channel h).param (record { nrpn = nrpn; high = high; low = low });
       wheel = λ channel h. (all.channel channel h).wheel;
@@ -263,6 +261,7 @@ parts_of : (s t : State) → AreSame s t → (channel : ℕ) → channel < 16 �
 parts_of s t h channel less = record {
   program = h.program channel less;
   control = λ number. h.control channel number less;
+  toggles = h.toggles channel less;
   selection = h.selection channel less;
   param = λ p. h.param channel p.nrpn p.high p.low less;
   wheel = h.wheel channel less;

@@ -1,5 +1,5 @@
 -- What a command says of each part: nothing, that it is absent, or its new value.
-use Rattle.std.specs.Prelude.{ℕ, ◌+◌, ◌%◌, Bool, true, false, ◌||◌, List, [], length, Option, Some, None, ◌==◌, nat_le, if◌then◌else◌}
+use Rattle.std.specs.Prelude.{ℕ, ◌+◌, ◌%◌, Bool, true, false, ◌||◌, List, [], Option, Some, None, ◌==◌, if◌then◌else◌}
 use Rattle.jm_cmds.specs.declared.commands.Command.{Command}
 use Rattle.jm_cmds.specs.declared.commands.Command.TheVariants.{NoteOff, NoteOn, PolyPressure, Control, Program, Pressure, Wheel, SongSelect, SystemReset, Sysex}
 use Rattle.jm_cmds.specs.declared.controls.ControlKind.{ControlKind}
@@ -9,6 +9,7 @@ use Rattle.jm_cmds.specs.declared.selection.ParamCommand.{ParamCommand}
 use Rattle.jm_cmds.specs.declared.selection.ParamCommand.TheVariants.{Select, Enter, Unselect, Clear, Pass}
 use Rattle.jm_cmds.specs.declared.selection.Selection.{Selection}
 use Rattle.jm_cmds.specs.Control.{control_kind, is_reset, is_reset_message, ends_notes, ends_controllers}
+use Rattle.jm_cmds.specs.Data.{is_kept_message}
 use Rattle.jm_cmds.specs.Selection.{selection_with}
 use Rattle.jm_state.specs.declared.channel.ProgramPart.{ProgramPart}
 use Rattle.jm_state.specs.declared.entered.Entry.{Entry}
@@ -33,7 +34,7 @@ song_says command = ended (is_reset command)
 abbrev pub count_after : ℕ → Command → ℕ
 count_after count SystemReset = 0
 count_after count (Sysex octets) =
-    if is_reset_message octets then 0 else (if nat_le (length octets) 254 then (count + 1) % 256 else count)
+    if is_reset_message octets then 0 else (if is_kept_message octets then (count + 1) % 256 else count)
 count_after count command = count
 
 -- the values of Controls 0 and 32 are given
@@ -44,6 +45,7 @@ program_says channel high low command = ended (is_reset command)
 
 -- Control 121 drops controls of this kind
 abbrev pub is_dropped : ControlKind → Bool
+is_dropped kinds.Pedal = true
 is_dropped (kinds.Plain number) = true
 is_dropped _ = false
 
@@ -52,6 +54,7 @@ abbrev pub controller_says : (kind other : ControlKind) → (number control valu
 controller_says (kinds.Mode m) other number control value =
     if number == control then Some (Some value) else ended (pair_of number == control)
 controller_says (kinds.Kept k) other number control value = if number == control then Some (Some value) else None
+controller_says kinds.Pedal other number control value = if number == control then Some (Some value) else None
 controller_says (kinds.Plain k) other number control value = if number == control then Some (Some value) else None
 controller_says kinds.ResetControllers other number control value = ended (is_dropped other)
 controller_says _ other number control value = None

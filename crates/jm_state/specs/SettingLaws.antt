@@ -13,7 +13,7 @@ use Rattle.jm_state.specs.declared.channel.ChannelState.{ChannelState}
 use Rattle.jm_state.specs.declared.state.State.{State}
 use Rattle.jm_state.specs.Table.{value_at}
 use Rattle.jm_state.specs.Entered.{halves_in}
-use Rattle.jm_state.specs.Parts.{no_channel, channel_of, with_channel, control_by, control_at, controls_by, control_put, pair_of, half_put, note_put, poly_put, song_of, sequencer_of, time_code_of, sysex_count_of, program_of, control_of, selection_of, param_of, wheel_of, note_of, pressure_of, poly_of, with_song, with_sequencer, with_time_code, with_sysex_count, with_program, with_control, with_selection, with_param_high, with_param_low, with_wheel, with_note, with_pressure, with_poly}
+use Rattle.jm_state.specs.Parts.{no_channel, channel_of, with_channel, control_by, control_at, controls_by, control_put, pair_of, half_put, note_put, poly_put, song_of, sequencer_of, time_code_of, sysex_count_of, program_of, control_of, toggles_of, selection_of, param_of, wheel_of, note_of, pressure_of, poly_of, with_song, with_sequencer, with_time_code, with_sysex_count, with_program, with_control, with_toggles, with_selection, with_param_high, with_param_low, with_wheel, with_note, with_pressure, with_poly}
 use Rattle.jm_state.specs.Kept.{IsState, IsChannel, value_set, channel_put}
 
 -- which parts a call may change: those for which this is true
@@ -24,6 +24,7 @@ pub record Touched : Type 0 where
   pub sysex_count : Bool
   pub program : ℕ → Bool
   pub control : ℕ → ℕ → Bool
+  pub toggles : ℕ → Bool
   pub selection : ℕ → Bool
   pub params : ℕ → Bool
   pub wheel : ℕ → Bool
@@ -34,11 +35,11 @@ pub record Touched : Type 0 where
 abbrev pub none_of : ℕ → Bool
 none_of channel = false
 
-abbrev pub none_at : ℕ → ℕ → Bool
+abbrev pub none_at : (channel number : ℕ) → Bool
 none_at channel number = false
 
 abbrev pub nothing : Touched
-nothing = record { song = false; sequencer = false; time_code = false; sysex_count = false; program = none_of; control = none_at; selection = none_of; params = none_of; wheel = none_of; note = none_at; pressure = none_of; poly = none_at }
+nothing = record { song = false; sequencer = false; time_code = false; sysex_count = false; program = none_of; control = none_at; toggles = none_of; selection = none_of; params = none_of; wheel = none_of; note = none_at; pressure = none_of; poly = none_at }
 
 -- the parts that a setting of a control changes: itself, and of two modes that are one part the other one
 abbrev pub is_paired : ControlKind → (number other : ℕ) → Bool
@@ -53,6 +54,7 @@ pub record SameBut (own : Touched) (s t : State) : Type 0 where
   pub sysex_count : own.sysex_count ≡ false → sysex_count_of t ≡ sysex_count_of s
   pub program : (channel : ℕ) → channel < 16 → own.program channel ≡ false → program_of t channel ≡ program_of s channel
   pub control : (channel number : ℕ) → channel < 16 → number < 128 → own.control channel number ≡ false → control_of t channel number ≡ control_of s channel number
+  pub toggles : (channel : ℕ) → channel < 16 → own.toggles channel ≡ false → toggles_of t channel ≡ toggles_of s channel
   pub selection : (channel : ℕ) → channel < 16 → own.selection channel ≡ false → selection_of t channel ≡ selection_of s channel
   pub param : (channel : ℕ) (nrpn : Bool) (high low : ℕ) → channel < 16 → own.params channel ≡ false → param_of t channel nrpn high low ≡ param_of s channel nrpn high low
   pub wheel : (channel : ℕ) → channel < 16 → own.wheel channel ≡ false → wheel_of t channel ≡ wheel_of s channel
@@ -66,6 +68,7 @@ pub record SameBut (own : Touched) (s t : State) : Type 0 where
 record Changes (own : Touched) (at : ℕ) (change : ChannelState → ChannelState) : Type 0 where
   program : own.program at ≡ false → (c : ChannelState) → (change c).program ≡ c.program
   control : (number : ℕ) → number < 128 → own.control at number ≡ false → (c : ChannelState) → IsChannel c → control_at (change c) number ≡ control_at c number
+  toggles : own.toggles at ≡ false → (c : ChannelState) → (change c).toggles ≡ c.toggles
   selection : own.selection at ≡ false → (c : ChannelState) → (change c).selection ≡ c.selection
   param : own.params at ≡ false → (c : ChannelState) → (change c).entered ≡ c.entered
   wheel : own.wheel at ≡ false → (c : ChannelState) → (change c).wheel ≡ c.wheel
@@ -89,6 +92,7 @@ same_but own s at change is h = record {
   sysex_count = λ _. refl;
   program = λ channel l n. left_of (λ c. c.program) own.program s at channel change is l n (λ m. h.program m (channel_of s channel));
   control = λ channel number l k n. left_of (λ c. control_at c number) (λ x. own.control x number) s at channel change is l n (λ m. h.control number k m (channel_of s channel) (is.channels channel l));
+  toggles = λ channel l n. left_of (λ c. c.toggles) own.toggles s at channel change is l n (λ m. h.toggles m (channel_of s channel));
   selection = λ channel l n. left_of (λ c. c.selection) own.selection s at channel change is l n (λ m. h.selection m (channel_of s channel));
   param = λ channel nrpn high low l n. ap (λ es. halves_in es (record { nrpn = nrpn; high = high; low = low })) (left_of (λ c. c.entered) own.params s at channel change is l n (λ m. h.param m (channel_of s channel)));
   wheel = λ channel l n. left_of (λ c. c.wheel) own.wheel s at channel change is l n (λ m. h.wheel m (channel_of s channel));
@@ -114,6 +118,20 @@ pub program_alone : (s : State) (at : ℕ) (value : Option ProgramPart) → IsSt
 program_alone s at value is = same_but (record nothing { program = λ channel. eqb at channel }) s at (λ c. record c { program = value }) is (record {
   program = λ n c. touched at n;
   control = λ number l n c is. refl;
+  toggles = λ _ c. refl;
+  selection = λ _ c. refl;
+  param = λ _ c. refl;
+  wheel = λ _ c. refl;
+  note = λ number l n c is. refl;
+  pressure = λ _ c. refl;
+  poly = λ number l n c is. refl;
+})
+
+pub toggles_alone : (s : State) (at count : ℕ) → IsState s → SameBut (record nothing { toggles = λ channel. eqb at channel }) s (with_toggles s at count)
+toggles_alone s at count is = same_but (record nothing { toggles = λ channel. eqb at channel }) s at (λ c. record c { toggles = count }) is (record {
+  program = λ _ c. refl;
+  control = λ number l n c is. refl;
+  toggles = λ n c. touched at n;
   selection = λ _ c. refl;
   param = λ _ c. refl;
   wheel = λ _ c. refl;
@@ -126,6 +144,7 @@ pub selection_alone : (s : State) (at : ℕ) (value : Option Selection) → IsSt
 selection_alone s at value is = same_but (record nothing { selection = λ channel. eqb at channel }) s at (λ c. record c { selection = value }) is (record {
   program = λ _ c. refl;
   control = λ number l n c is. refl;
+  toggles = λ _ c. refl;
   selection = λ n c. touched at n;
   param = λ _ c. refl;
   wheel = λ _ c. refl;
@@ -138,6 +157,7 @@ pub wheel_alone : (s : State) (at : ℕ) (value : Option (ℕ × ℕ)) → IsSta
 wheel_alone s at value is = same_but (record nothing { wheel = λ channel. eqb at channel }) s at (λ c. record c { wheel = value }) is (record {
   program = λ _ c. refl;
   control = λ number l n c is. refl;
+  toggles = λ _ c. refl;
   selection = λ _ c. refl;
   param = λ _ c. refl;
   wheel = λ n c. touched at n;
@@ -150,6 +170,7 @@ pub pressure_alone : (s : State) (at : ℕ) (value : Option ℕ) → IsState s �
 pressure_alone s at value is = same_but (record nothing { pressure = λ channel. eqb at channel }) s at (λ c. record c { pressure = value }) is (record {
   program = λ _ c. refl;
   control = λ number l n c is. refl;
+  toggles = λ _ c. refl;
   selection = λ _ c. refl;
   param = λ _ c. refl;
   wheel = λ _ c. refl;
@@ -162,6 +183,7 @@ pub param_high_alone : (s : State) (at : ℕ) (nrpn : Bool) (high low : ℕ) (va
 param_high_alone s at nrpn high low value is = same_but (record nothing { params = λ channel. eqb at channel }) s at (half_put true (record { nrpn = nrpn; high = high; low = low }) value) is (record {
   program = λ _ c. refl;
   control = λ number l n c is. refl;
+  toggles = λ _ c. refl;
   selection = λ _ c. refl;
   param = λ n c. touched at n;
   wheel = λ _ c. refl;
@@ -174,6 +196,7 @@ pub param_low_alone : (s : State) (at : ℕ) (nrpn : Bool) (high low : ℕ) (val
 param_low_alone s at nrpn high low value is = same_but (record nothing { params = λ channel. eqb at channel }) s at (half_put false (record { nrpn = nrpn; high = high; low = low }) value) is (record {
   program = λ _ c. refl;
   control = λ number l n c is. refl;
+  toggles = λ _ c. refl;
   selection = λ _ c. refl;
   param = λ n c. touched at n;
   wheel = λ _ c. refl;
@@ -186,6 +209,7 @@ pub note_alone : (s : State) (at k : ℕ) (value : Option ℕ) → IsState s →
 note_alone s at k value is = same_but (record nothing { note = λ channel number. eqb at channel && eqb k number }) s at (note_put k value) is (record {
   program = λ _ c. refl;
   control = λ number l n c is. refl;
+  toggles = λ _ c. refl;
   selection = λ _ c. refl;
   param = λ _ c. refl;
   wheel = λ _ c. refl;
@@ -198,6 +222,7 @@ pub poly_alone : (s : State) (at k : ℕ) (value : Option ℕ) → IsState s →
 poly_alone s at k value is = same_but (record nothing { poly = λ channel number. eqb at channel && eqb k number }) s at (poly_put k value) is (record {
   program = λ _ c. refl;
   control = λ number l n c is. refl;
+  toggles = λ _ c. refl;
   selection = λ _ c. refl;
   param = λ _ c. refl;
   wheel = λ _ c. refl;
@@ -219,6 +244,7 @@ controls_left_alone (kinds.Mode m) number other value controls l f =
     table_left (set controls (pair_of number) None) number other value (omega (arith, l, length-set controls (pair_of number) None)) both.0
     ∙ table_left controls (pair_of number) other None l both.1
 controls_left_alone (kinds.Kept m) number other value controls l f = table_left controls number other value l (neither (eqb number other) false f).0
+controls_left_alone kinds.Pedal number other value controls l f = table_left controls number other value l (neither (eqb number other) false f).0
 controls_left_alone (kinds.Plain m) number other value controls l f = table_left controls number other value l (neither (eqb number other) false f).0
 controls_left_alone kind number other value controls l f = refl
 
@@ -226,6 +252,7 @@ pub control_alone : (s : State) (at number : ℕ) (value : Option ℕ) → IsSta
 control_alone s at number value is = same_but (record nothing { control = λ channel other. eqb at channel && (eqb number other || is_paired (control_kind number) number other) }) s at (control_put number value) is (record {
   program = λ _ c. refl;
   control = λ other l n c whole. ap (control_by (control_kind other)) (controls_left_alone (control_kind number) number other value c.controls (omega (arith, l, whole.controls)) (not_touched at (eqb number other || is_paired (control_kind number) number other) n));
+  toggles = λ _ c. refl;
   selection = λ _ c. refl;
   param = λ _ c. refl;
   wheel = λ _ c. refl;
@@ -244,6 +271,7 @@ song_alone s value = record {
   sysex_count = λ _. refl;
   program = λ channel l n. refl;
   control = λ channel number l k n. refl;
+  toggles = λ channel l n. refl;
   selection = λ channel l n. refl;
   param = λ channel nrpn high low l n. refl;
   wheel = λ channel l n. refl;
@@ -260,6 +288,7 @@ sequencer_alone s value = record {
   sysex_count = λ _. refl;
   program = λ channel l n. refl;
   control = λ channel number l k n. refl;
+  toggles = λ channel l n. refl;
   selection = λ channel l n. refl;
   param = λ channel nrpn high low l n. refl;
   wheel = λ channel l n. refl;
@@ -276,6 +305,7 @@ time_code_alone s value = record {
   sysex_count = λ _. refl;
   program = λ channel l n. refl;
   control = λ channel number l k n. refl;
+  toggles = λ channel l n. refl;
   selection = λ channel l n. refl;
   param = λ channel nrpn high low l n. refl;
   wheel = λ channel l n. refl;
@@ -292,6 +322,7 @@ sysex_count_alone s value = record {
   sysex_count = λ n. absurd cc;
   program = λ channel l n. refl;
   control = λ channel number l k n. refl;
+  toggles = λ channel l n. refl;
   selection = λ channel l n. refl;
   param = λ channel nrpn high low l n. refl;
   wheel = λ channel l n. refl;
@@ -313,6 +344,7 @@ place_set values k value l = get_or-set_same values k value None l
 control_set : (kind : ControlKind) (number : ℕ) (value : Option ℕ) (controls : List (Option ℕ)) → number < length controls → control_by kind (value_at (controls_by kind number value controls) number) ≡ control_by kind value
 control_set (kinds.Mode m) number value controls l = place_set (set controls (pair_of number) None) number value (omega (arith, l, length-set controls (pair_of number) None))
 control_set (kinds.Kept m) number value controls l = place_set controls number value l
+control_set kinds.Pedal number value controls l = place_set controls number value l
 control_set (kinds.Plain m) number value controls l = place_set controls number value l
 control_set (kinds.DataEntry high) number value controls l = refl
 control_set (kinds.Selection nrpn high) number value controls l = refl
@@ -328,6 +360,7 @@ pub record ReadsAsSet (s : State) : Type 0 where
   pub sysex_count : (count : ℕ) → sysex_count_of (with_sysex_count s count) ≡ count
   pub program : (channel : ℕ) (value : Option ProgramPart) → channel < 16 → program_of (with_program s channel value) channel ≡ value
   pub control : (channel number : ℕ) (value : Option ℕ) → channel < 16 → number < 128 → control_of (with_control s channel number value) channel number ≡ control_by (control_kind number) value
+  pub toggles : (channel count : ℕ) → channel < 16 → toggles_of (with_toggles s channel count) channel ≡ count
   pub selection : (channel : ℕ) (value : Option Selection) → channel < 16 → selection_of (with_selection s channel value) channel ≡ value
   pub wheel : (channel : ℕ) (value : Option (ℕ × ℕ)) → channel < 16 → wheel_of (with_wheel s channel value) channel ≡ value
   pub note : (channel note : ℕ) (value : Option ℕ) → channel < 16 → note < 128 → note_of (with_note s channel note value) channel note ≡ value
@@ -344,6 +377,7 @@ reads_as_set s is = record {
   control = λ channel number value l m.
       ap (λ c. control_at c number) (set_at s channel (control_put number value (channel_of s channel)) is l)
       ∙ control_set (control_kind number) number value (channel_of s channel).controls (omega (arith, m, (is.channels channel l).controls));
+  toggles = λ channel count l. ap (λ c. c.toggles) (set_at s channel (record (channel_of s channel) { toggles = count }) is l);
   selection = λ channel value l. ap (λ c. c.selection) (set_at s channel (record (channel_of s channel) { selection = value }) is l);
   wheel = λ channel value l. ap (λ c. c.wheel) (set_at s channel (record (channel_of s channel) { wheel = value }) is l);
   note = λ channel note value l m.
@@ -365,6 +399,7 @@ pub record SetsAlone (s : State) : Type 0 where
   pub sysex_count : (count : ℕ) → SameBut (record nothing { sysex_count = true }) s (with_sysex_count s count)
   pub program : (at : ℕ) (value : Option ProgramPart) → SameBut (record nothing { program = λ channel. eqb at channel }) s (with_program s at value)
   pub control : (at number : ℕ) (value : Option ℕ) → SameBut (record nothing { control = λ channel other. eqb at channel && (eqb number other || is_paired (control_kind number) number other) }) s (with_control s at number value)
+  pub toggles : (at count : ℕ) → SameBut (record nothing { toggles = λ channel. eqb at channel }) s (with_toggles s at count)
   pub selection : (at : ℕ) (value : Option Selection) → SameBut (record nothing { selection = λ channel. eqb at channel }) s (with_selection s at value)
   pub param_high : (at : ℕ) (nrpn : Bool) (high low : ℕ) (value : Option ℕ) → SameBut (record nothing { params = λ channel. eqb at channel }) s (with_param_high s at nrpn high low value)
   pub param_low : (at : ℕ) (nrpn : Bool) (high low : ℕ) (value : Option ℕ) → SameBut (record nothing { params = λ channel. eqb at channel }) s (with_param_low s at nrpn high low value)
@@ -381,6 +416,7 @@ sets_alone s is = record {
   sysex_count = sysex_count_alone s;
   program = λ at value. program_alone s at value is;
   control = λ at number value. control_alone s at number value is;
+  toggles = λ at count. toggles_alone s at count is;
   selection = λ at value. selection_alone s at value is;
   param_high = λ at nrpn high low value. param_high_alone s at nrpn high low value is;
   param_low = λ at nrpn high low value. param_low_alone s at nrpn high low value is;

@@ -7,9 +7,6 @@ ghost use Rattle.jm_state.specs.Apply.{applied, sounding, message_counted, run_o
 use crate::state::{State, index_of};
 use jm_cmds::{Command, D7, Sysex, frame_event, sequencer_event};
 
-/// The most data octets of a System Exclusive message that can be recovered.
-const MOST_KEPT: usize = 254;
-
 /// How a note sounds that is struck with this velocity: with velocity 0 it is released (RFC 6295, A.6).
 fn sounding(velocity: D7) -> Option<D7>
     ensures { result ≡ sounding velocity }
@@ -21,11 +18,11 @@ fn sounding(velocity: D7) -> Option<D7>
 }
 
 impl State {
-    /// A System Exclusive message that is no Reset State command: it is counted where it can be recovered.
+    /// A System Exclusive message that is no Reset State command: it is counted where it is kept for repair.
     fn count(&mut self, message: &Sysex)
         ensures { self.new ≡ message_counted self.old message.now }
     {
-        if message.len() <= MOST_KEPT {
+        if message.is_kept() {
             self.sysex_count = self.sysex_count.wrapping_add(1);
         }
     }
@@ -34,9 +31,10 @@ impl State {
     /// - a Reset State command makes all parts absent;
     /// - NoteOn lets its note sound, or ends it where the velocity is 0, and NoteOff ends it;
     /// - Program sets the program, with the bank of Controls 0 and 32 where Control 0 is there;
-    /// - Control 121 drops the controls but 0, 32, 122 and 124 to 127, and the selection, the wheel, the pressure and the
-    ///   pressures on keys;
+    /// - Control 121 drops the controls but 0, 32, 122 and 124 to 127, and the toggles, the selection, the wheel, the
+    ///   pressure and the pressures on keys;
     /// - Control 120, 123 and 124 to 127 drop the notes and the pressure, and 124 to 127 set their control as well;
+    /// - Control 64 sets its control, and counts among the toggles where the pedal goes up or down by it;
     /// - Controls 6 and 38 enter a half of the selected parameter, and 98 to 101 set a half of the selection;
     /// - another System Exclusive message of at most 254 data octets is counted;
     /// - Controls 96 and 97, TuneRequest, ActiveSensing and longer messages change nothing;

@@ -5,6 +5,7 @@ ghost use Rattle.jm_state.specs.Parts.{no_channel};
 ghost use Rattle.jm_state.specs.Apply.{program_with};
 
 use crate::entered::Entered;
+use crate::slots::Toggles;
 use crate::table::Table;
 use jm_cmds::{D7, Selection};
 
@@ -23,6 +24,8 @@ pub(crate) struct ChannelState {
     pub(crate) program: Option<ProgramPart>,
     /// The values of controls. Of 124 and 125 at most one is there, and of 126 and 127.
     pub(crate) controls: Table,
+    /// How often the sustain pedal went up or down.
+    pub(crate) toggles: Toggles,
     pub(crate) selection: Option<Selection>,
     pub(crate) entered: Entered,
     pub(crate) wheel: Option<(D7, D7)>,
@@ -41,6 +44,7 @@ impl ChannelState {
         ChannelState {
             program: None,
             controls: Table::new(),
+            toggles: Toggles::new(),
             selection: None,
             entered: Entered::new(),
             wheel: None,
@@ -57,6 +61,7 @@ impl ChannelState {
         ChannelState {
             program: self.program,
             controls: self.controls,
+            toggles: self.toggles,
             selection: self.selection,
             entered: self.entered.copy(),
             wheel: self.wheel,

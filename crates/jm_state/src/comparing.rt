@@ -49,14 +49,21 @@ fn same_entered(a: &Entered, b: &Entered) -> bool
     a.same(b)
 }
 
+/// Whether a control has the same value in both channels.
+fn same_control(a: &ChannelState, b: &ChannelState, number: D7) -> bool
+    ensures holds { IsTrue result → control_at a.now number ≡ control_at b.now number }
+    ensures else_not { control_at a.now number ≡ control_at b.now number → IsTrue result }
+{
+    same_value(a.control(number), b.control(number))
+}
+
 /// Whether each control has the same value in both channels.
 fn same_controls(a: &ChannelState, b: &ChannelState) -> bool
     ensures holds { IsTrue result → (number : ℕ) → number < 128 → control_at a.now number ≡ control_at b.now number }
     ensures else_not { ((number : ℕ) → number < 128 → control_at a.now number ≡ control_at b.now number) → IsTrue result }
 {
     for number in 0..128u8 {
-        let number = D7::low(number);
-        if !same_value(a.control(number), b.control(number)) {
+        if !same_control(a, b, D7::low(number)) {
             return false;
         }
     }
@@ -98,12 +105,12 @@ fn same_program(a: Option<ProgramPart>, b: Option<ProgramPart>) -> bool
     a == b
 }
 
-/// Whether the wheels and the pressures on the channels are equal.
+/// Whether the wheels, the pressures on the channels and the toggles are equal.
 fn same_moved(a: &ChannelState, b: &ChannelState) -> bool
-    ensures holds { IsTrue result → (a.now.wheel ≡ b.now.wheel) × (a.now.pressure ≡ b.now.pressure) }
-    ensures else_not { a.now.wheel ≡ b.now.wheel → a.now.pressure ≡ b.now.pressure → IsTrue result }
+    ensures holds { IsTrue result → (a.now.wheel ≡ b.now.wheel) × (a.now.pressure ≡ b.now.pressure) × (a.now.toggles ≡ b.now.toggles) }
+    ensures else_not { a.now.wheel ≡ b.now.wheel → a.now.pressure ≡ b.now.pressure → a.now.toggles ≡ b.now.toggles → IsTrue result }
 {
-    a.wheel == b.wheel && a.pressure == b.pressure
+    a.wheel == b.wheel && a.pressure == b.pressure && a.toggles.get() == b.toggles.get()
 }
 
 /// Whether all parts of two channels are equal.

@@ -2,12 +2,14 @@
 
 ghost use Rattle.std.specs.Prelude.{◌≡◌};
 ghost use Rattle.jm_cmds.specs.Control.{control_kind};
-ghost use Rattle.jm_state.specs.Parts.{control_at, control_put, pair_of};
-ghost use Rattle.jm_state.specs.Apply.{controls_left, silenced, controllers_reset, half_entered, half_selected, controlled};
+ghost use Rattle.jm_cmds.specs.Pedal.{IsPedal};
+ghost use Rattle.jm_state.specs.Parts.{control_at, control_put, pair_of, is_down, pedal_at};
+ghost use Rattle.jm_state.specs.Apply.{controls_left, silenced, controllers_reset, pedal_moved, half_entered, half_selected, controlled};
 
 use crate::channel::ChannelState;
+use crate::slots::Toggles;
 use crate::table::Table;
-use jm_cmds::{ControlKind, D7, ParamCommand, Selection};
+use jm_cmds::{ControlKind, D7, ParamCommand, Pedal, PedalEvent, Selection, pedal_step};
 
 /// The other of two modes that are one part: 124 and 125, and 126 and 127 (RFC 6295, A.3.1).
 fn pair_of(mode: D7) -> D7
@@ -37,15 +39,26 @@ fn controls_left(controls: &Table) -> Table
     left
 }
 
+/// Whether the sustain pedal is down where Control 64 has this value.
+fn is_down(pedal: Option<D7>) -> bool
+    ensures { result ≡ is_down pedal }
+{
+    match pedal {
+        None => false,
+        Some(value) => value.get() >= 64,
+    }
+}
+
 impl ChannelState {
     /// The value of this control: `None` of a number that has no part.
     pub(crate) fn control(&self, number: D7) -> Option<D7>
         ensures { result ≡ control_at self.now number }
     {
         match ControlKind::of(number) {
-            ControlKind::Mode { .. } | ControlKind::Kept { .. } | ControlKind::Plain { .. } => {
-                self.controls.get(number)
-            }
+            ControlKind::Mode { .. }
+            | ControlKind::Kept { .. }
+            | ControlKind::Pedal
+            | ControlKind::Plain { .. } => self.controls.get(number),
             _ => None,
         }
     }
@@ -60,7 +73,7 @@ impl ChannelState {
                 self.controls.set(pair_of(number), None);
                 self.controls.set(number, value);
             }
-            ControlKind::Kept { .. } | ControlKind::Plain { .. } => {
+            ControlKind::Kept { .. } | ControlKind::Pedal | ControlKind::Plain { .. } => {
                 self.controls.set(number, value);
             }
             _ => {}
@@ -80,10 +93,33 @@ impl ChannelState {
         ensures { self.new ≡ controllers_reset self.old }
     {
         self.controls = controls_left(&self.controls);
+        self.toggles = Toggles::new();
         self.selection = None;
         self.wheel = None;
         self.pressure = None;
         self.polys = Table::new();
+    }
+
+    /// The sustain pedal: down where Control 64 is there with a value of 64 to 127.
+    fn pedal(&self) -> Pedal
+        ensures pedal { result ≡ pedal_at self.now }
+        ensures bound { IsPedal result }
+    {
+        Pedal {
+            on: is_down(self.control(D7::low(64))),
+            toggles: self.toggles.get(),
+        }
+    }
+
+    /// Control 64 moves the pedal: the toggles count where it goes up or down.
+    fn move_pedal(&mut self, value: D7)
+        ensures { self.new ≡ pedal_moved value self.old }
+    {
+        let moved = PedalEvent::Moved {
+            on: value.get() >= 64,
+        };
+        let pedal = pedal_step(self.pedal(), moved);
+        self.toggles.set(pedal.toggles);
     }
 
     /// Controls 6 and 38.
@@ -120,6 +156,10 @@ impl ChannelState {
             ControlKind::ResetControllers => self.reset_controllers(),
             ControlKind::Mode { .. } => {
                 self.silence();
+                self.set_control(number, Some(value));
+            }
+            ControlKind::Pedal => {
+                self.move_pedal(value);
                 self.set_control(number, Some(value));
             }
             ControlKind::Kept { .. } | ControlKind::Plain { .. } => {

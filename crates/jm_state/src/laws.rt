@@ -1,7 +1,7 @@
 //! What holds of the definitions that this crate's contracts cite. Each law is the contract of a
 //! function that does nothing.
 
-ghost use Rattle.jm_state.specs.Laws.{StaysWhole, ByPart, SetsOnePart, EntersLast, CommandsPlayAgain};
+ghost use Rattle.jm_state.specs.Laws.{StaysWhole, ByPart, SetsOnePart, EntersLast, CommandsPlayAgain, CountsToggles};
 
 /// A state has 16 channels, each with its tables, as a session begins and behind each command. All laws
 /// speak of such states.
@@ -10,7 +10,8 @@ pub fn stays_whole()
 {}
 
 /// What a command does to each part depends on this part alone: it sets it, drops it or leaves it. A
-/// program reads Controls 0 and 32, too, and a clock or a quarter frame moves on what is there.
+/// program reads Controls 0 and 32, too, the toggles of the pedal Control 64, and a clock or a quarter frame moves on what
+/// is there.
 #[tactic(auto, using(crate::specs::PartLaws::by_part))]
 pub fn applies_by_part()
     ensures { ByPart }
@@ -33,4 +34,11 @@ pub fn enters_last()
 /// a state that has all packets before it and maybe some of these, as a participant has that lost what came then.
 pub fn commands_play_again()
     ensures { CommandsPlayAgain }
+{}
+
+/// The toggles of a channel are as many as the session's commands moved its pedal up or down, as Chapter C codes them, and
+/// Control 64 says whether it is down.
+#[tactic(auto, using(crate::specs::ReplayLaws::pedal_counted))]
+pub fn counts_toggles()
+    ensures { CountsToggles }
 {}

@@ -1,10 +1,10 @@
 //! Setting the parts of a state one at a time. Each call changes its own part alone, but for the order of a
 //! channel's parameters.
 
-ghost use Rattle.std.specs.Prelude.{◌≡◌};
+ghost use Rattle.std.specs.Prelude.{◌≡◌, ◌<◌};
 ghost use Rattle.jm_cmds.specs.Sequencing.{IsSequencer};
 ghost use Rattle.jm_cmds.specs.Frames.{IsTimeCode};
-ghost use Rattle.jm_state.specs.Parts.{with_song, with_sequencer, with_time_code, with_sysex_count, with_program, with_control, with_selection, with_param_high, with_param_low, with_wheel, with_note, with_pressure, with_poly};
+ghost use Rattle.jm_state.specs.Parts.{with_song, with_sequencer, with_time_code, with_sysex_count, with_program, with_control, with_toggles, with_selection, with_param_high, with_param_low, with_wheel, with_note, with_pressure, with_poly};
 
 use crate::channel::ProgramPart;
 use crate::state::{State, index_of};
@@ -55,6 +55,14 @@ impl State {
         ensures { self.new ≡ with_control self.old channel number v }
     {
         self.channels[index_of(channel)].set_control(number, v);
+    }
+
+    /// Sets how often the sustain pedal of a channel went up or down. 0 is never.
+    pub fn set_toggles(&mut self, channel: Channel, v: u8)
+        requires { v < 64 }
+        ensures { self.new ≡ with_toggles self.old channel v }
+    {
+        self.channels[index_of(channel)].toggles.set(v);
     }
 
     /// Sets the selection of a channel, or makes it absent.

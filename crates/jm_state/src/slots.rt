@@ -1,6 +1,6 @@
-//! The song position and the time code of a state, each within its bounds.
+//! The song position, the time code and the toggles of a state, each within its bounds.
 
-ghost use Rattle.std.specs.Prelude.{◌≡◌, None};
+ghost use Rattle.std.specs.Prelude.{◌≡◌, ◌<◌, None};
 ghost use Rattle.jm_cmds.specs.Sequencing.{IsSequencer, IsSequencerEvent, sequencer_step};
 ghost use Rattle.jm_cmds.specs.Frames.{IsTimeCode, IsFrameEvent, time_code_step};
 
@@ -106,5 +106,45 @@ impl TimeSlot {
         ensures { self.new ≡ time_code_step self.old event }
     {
         self.part = time_code_step(self.part, event);
+    }
+}
+
+/// How often the sustain pedal of a channel was moved, a number below 64.
+#[derive(Clone, Copy, Debug)]
+pub(crate) struct Toggles {
+    count: u8,
+}
+
+impl Model for Toggles {
+    ghost use Rattle.std.specs.Prelude.{ℕ, ◌<◌};
+
+    ghost Value = { ℕ };
+
+    ghost view = { λ t. t.count };
+
+    ghost invariant = { λ t. t.count < 64 };
+
+    ghost inverse = { λ count. record { count = count } };
+}
+
+impl Toggles {
+    pub(crate) fn new() -> Toggles
+        ensures { result ≡ 0 }
+    {
+        Toggles { count: 0 }
+    }
+
+    pub(crate) fn get(&self) -> u8
+        ensures count { result ≡ self.now }
+        ensures bound { self.now < 64 }
+    {
+        self.count
+    }
+
+    pub(crate) fn set(&mut self, count: u8)
+        requires { count < 64 }
+        ensures { self.new ≡ count }
+    {
+        self.count = count;
     }
 }

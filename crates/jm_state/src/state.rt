@@ -1,7 +1,7 @@
 //! The state, and what is read of it.
 
 ghost use Rattle.std.specs.Prelude.{◌≡◌, ◌<◌, length};
-ghost use Rattle.jm_state.specs.Parts.{no_state, no_channels, song_of, sequencer_of, time_code_of, sysex_count_of, program_of, control_of, selection_of, param_of, wheel_of, note_of, pressure_of, poly_of};
+ghost use Rattle.jm_state.specs.Parts.{no_state, no_channels, song_of, sequencer_of, time_code_of, sysex_count_of, program_of, control_of, toggles_of, selection_of, param_of, wheel_of, note_of, pressure_of, poly_of};
 
 use crate::channel::{ChannelState, ProgramPart};
 use crate::entered::Halves;
@@ -131,6 +131,15 @@ impl State {
         ensures { result ≡ control_of self.now channel number }
     {
         self.channels[index_of(channel)].control(number)
+    }
+
+    /// How often the sustain pedal of a channel went up or down since the last Reset State command or Control 121 of the
+    /// channel, modulo 64: below 64. A pedal that never moved is up, and 64 to 127 of Control 64 is down.
+    pub fn toggles(&self, channel: Channel) -> u8
+        ensures count { result ≡ toggles_of self.now channel }
+        ensures bound { result < 64 }
+    {
+        self.channels[index_of(channel)].toggles.get()
     }
 
     /// The halves of a parameter's number that were sent, and the kind of the last of them (RFC 6295, A.3.4). `None`

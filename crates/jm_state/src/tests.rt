@@ -50,45 +50,6 @@ fn halves(high: Option<u8>, low: Option<u8>) -> Halves {
 }
 
 #[test]
-fn notes_sound_until_they_end(rt: HostRuntime) -> Result<(), Fail> {
-    let mut state = State::new();
-    state.apply(&note_on(60, 100));
-    state.apply(&note_on(61, 90));
-    assert_eq!(rt; state.note(channel(), seven(60)), Some(seven(100)));
-    state.apply(&note_on(60, 0));
-    assert_eq!(rt; state.note(channel(), seven(60)), None);
-    state.apply(&Command::NoteOff {
-        channel: channel(),
-        note: seven(61),
-        velocity: seven(64),
-    });
-    assert_eq!(rt; state.note(channel(), seven(61)), None);
-    assert!(rt; state.same(&State::new()));
-    Ok(())
-}
-
-#[test]
-fn modes_end_notes_and_pressure(rt: HostRuntime) -> Result<(), Fail> {
-    let mut state = State::new();
-    state.apply(&note_on(60, 100));
-    state.apply(&Command::Pressure {
-        channel: channel(),
-        value: seven(5),
-    });
-    state.apply(&Command::PolyPressure {
-        channel: channel(),
-        note: seven(60),
-        value: seven(6),
-    });
-    state.apply(&control(124, 0));
-    assert_eq!(rt; state.note(channel(), seven(60)), None);
-    assert_eq!(rt; state.pressure(channel()), None);
-    assert_eq!(rt; state.poly(channel(), seven(60)), Some(seven(6)));
-    assert_eq!(rt; state.control(channel(), seven(124)), Some(seven(0)));
-    Ok(())
-}
-
-#[test]
 fn two_modes_are_one_part(rt: HostRuntime) -> Result<(), Fail> {
     let mut state = State::new();
     state.apply(&control(124, 1));
@@ -102,55 +63,6 @@ fn two_modes_are_one_part(rt: HostRuntime) -> Result<(), Fail> {
     state.set_control(channel(), seven(127), None);
     assert_eq!(rt; state.control(channel(), seven(126)), None);
     assert_eq!(rt; state.control(channel(), seven(125)), Some(seven(2)));
-    Ok(())
-}
-
-#[test]
-fn control_121_keeps_banks_and_modes(rt: HostRuntime) -> Result<(), Fail> {
-    let mut state = State::new();
-    state.apply(&control(0, 1));
-    state.apply(&control(7, 2));
-    state.apply(&control(99, 3));
-    state.apply(&control(122, 4));
-    state.apply(&Command::Wheel {
-        channel: channel(),
-        first: seven(1),
-        second: seven(2),
-    });
-    assert_eq!(rt; state.wheel(channel()), Some((seven(1), seven(2))));
-    assert!(rt; state.selection(channel()).is_some());
-    state.apply(&control(121, 0));
-    assert_eq!(rt; state.control(channel(), seven(0)), Some(seven(1)));
-    assert_eq!(rt; state.control(channel(), seven(7)), None);
-    assert_eq!(rt; state.control(channel(), seven(99)), None);
-    assert_eq!(rt; state.control(channel(), seven(122)), Some(seven(4)));
-    assert_eq!(rt; state.wheel(channel()), None);
-    assert!(rt; !state.selection(channel()).is_some());
-    Ok(())
-}
-
-#[test]
-fn a_program_takes_its_bank(rt: HostRuntime) -> Result<(), Fail> {
-    let mut state = State::new();
-    let program = Command::Program {
-        channel: channel(),
-        program: seven(9),
-    };
-    state.apply(&program);
-    assert_eq!(rt;
-        state.program(channel()),
-        Some(ProgramPart {
-            program: seven(9),
-            bank: None
-        })
-    );
-    state.apply(&control(0, 5));
-    state.apply(&program);
-    let banked = ProgramPart {
-        program: seven(9),
-        bank: Some((seven(5), seven(0))),
-    };
-    assert_eq!(rt; state.program(channel()), Some(banked));
     Ok(())
 }
 
@@ -306,6 +218,14 @@ fn parts_are_set_and_dropped(rt: HostRuntime) -> Result<(), Fail> {
     assert_eq!(rt; state.pressure(channel()), Some(seven(3)));
     assert_eq!(rt; state.poly(channel(), seven(4)), Some(seven(5)));
     assert_eq!(rt; state.poly(Channel::low(4), seven(4)), None);
+    state.apply(&Command::Wheel {
+        channel: channel(),
+        first: seven(1),
+        second: seven(2),
+    });
+    assert_eq!(rt; state.wheel(channel()), Some((seven(1), seven(2))));
+    state.apply(&control(99, 3));
+    assert!(rt; state.selection(channel()).is_some());
     state.set_song(None);
     assert_eq!(rt; state.song(), None);
     Ok(())
