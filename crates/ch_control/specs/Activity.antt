@@ -1,4 +1,5 @@
--- What ends a controller, by the standard's own words (RFC 6295, A.1 and A.3.1).
+-- What ends a controller, by the standard's words for activity (RFC 6295, A.1) and for items (A.3.1). Which controllers
+-- Control 121 leaves as they are is this project's own choice.
 use Rattle.std.specs.Prelude.{◌≡◌, ℕ, Bool, false, ◌||◌, ◌==◌, if◌then◌else◌}
 use Rattle.jm_cmds.specs.declared.history.Sent.{Sent}
 use Rattle.jm_cmds.specs.Control.{is_reset, ends_controllers}
@@ -7,7 +8,7 @@ use Rattle.ch_control.specs.declared.events.ControlEvent.TheVariants.{Set, Dropp
 use Rattle.ch_control.specs.ControlEvent.{item_of, is_kept, event_at, control_ends}
 
 -- whether it is a control of the same item
-abbrev pub is_same : ℕ → ControlEvent → Bool
+abbrev pub is_same : (number : ℕ) → ControlEvent → Bool
 is_same number (Set other value) = item_of number == item_of other
 is_same number Dropped = false
 is_same number Other = false

@@ -5,7 +5,7 @@ use Rattle.std.proofs.lemmas.Bool.Decides.{nat_tests}
 use Rattle.jm_cmds.specs.declared.commands.Command.{Command}
 use Rattle.jm_cmds.specs.declared.commands.Command.TheVariants.{Control}
 use Rattle.jm_cmds.specs.declared.controls.ControlKind.{ControlKind}
-use Rattle.jm_cmds.specs.declared.controls.ControlKind.TheVariants.{DataEntry, Selection, Increment, Silence, ResetControllers, Mode, Kept, Plain}
+use Rattle.jm_cmds.specs.declared.controls.ControlKind.TheVariants.{DataEntry, Selection, Increment, Silence, ResetControllers, Mode, Kept, Pedal, Plain}
 use Rattle.jm_cmds.specs.declared.history.Sent.{Sent}
 use Rattle.jm_cmds.specs.Control.{is_entry, control_kind, control_number, clears_controllers, is_reset, ends_controllers}
 use Rattle.jm_cmds.specs.ControlLaws.{control_number-control_kind}
@@ -23,6 +23,7 @@ number-121 (Silence number) e = absurd (let f : false ≡ true = e in cc)
 number-121 ResetControllers e = refl
 number-121 (Mode number) e = absurd (let f : false ≡ true = e in cc)
 number-121 (Kept number) e = absurd (let f : false ≡ true = e in cc)
+number-121 Pedal e = absurd (let f : false ≡ true = e in cc)
 number-121 (Plain number) e = absurd (let f : false ≡ true = e in cc)
 
 clears-number : (number : ℕ) → clears_controllers (control_kind number) ≡ eqb number 121

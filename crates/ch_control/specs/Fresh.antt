@@ -3,7 +3,7 @@ use Rattle.std.specs.Prelude.{◌≡◌, ℕ, List}
 use Rattle.std.specs.List.{AllByRecursion}
 use Rattle.jm_cmds.specs.declared.history.Sent.{Sent}
 use Rattle.jm_cmds.specs.Command.{IsCommand}
-use Rattle.jm_cmds.specs.Listed.{log_shows_fresh}
+use Rattle.jm_chapter.specs.Logs.{log_shows_fresh}
 use Rattle.jm_cmds.specs.Sent.{shows_fresh}
 use Rattle.ch_control.specs.ChapterC.{chapter_c, fresh_c}
 

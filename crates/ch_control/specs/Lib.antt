@@ -1,6 +1,5 @@
 pub mod ControlEvent
 pub mod ChapterC
-pub mod ChapterLaws
 pub mod CountBounds
 pub mod Fresh
 pub mod FreshLaws

@@ -1,11 +1,12 @@
 //! What a command means for the controllers of one channel.
 
-ghost use Rattle.std.specs.Prelude.{◌≡◌, ◌%◌, ◌<◌, if◌then◌else◌};
-ghost use Rattle.std.specs.List.{list_any};
-ghost use Rattle.ch_control.specs.declared.events.ControlEvent.TheVariants.{Other};
-ghost use Rattle.ch_control.specs.ControlEvent.{item_of, is_kept, is_counted, control_event, IsWithin, event_ends, event_at, control_ends, is_control, control_count, value_field};
+ghost use Rattle.std.specs.Prelude.{◌≡◌, ◌+◌, ◌%◌, ◌<◌, ◌∷◌, []};
+ghost use Rattle.jm_chapter.specs.Logs.{logs_in};
+ghost use Rattle.ch_control.specs.ControlEvent.{item_of, is_kept, control_event, IsWithin, event_ends, control_ends, is_control, control_count, value_field};
+ghost use Rattle.ch_control.specs.ChapterC.{set_logs, event_logs};
 
-use jm_cmds::{Channel, Command, D7, Sent, is_entry};
+use jm_chapter::{Items, Log, PlaceLogs};
+use jm_cmds::{Channel, Command, D7, Sent, is_counted, is_entry, pedal_after};
 
 /// What a command means for the controllers of one channel.
 #[derive(Clone, Copy, PartialEq, Eq, Debug)]
@@ -31,21 +32,13 @@ fn item_of(number: D7) -> u8
     }
 }
 
-/// Whether Control 121 leaves it as it is: 0, 32 and 120 to 127 (RFC 6295, A.3.1).
+/// Whether Control 121 leaves it as it is: 0, 32 and 120 to 127. That these are coded while they are active,
+/// and all others while they are C-active (RFC 6295, A.1), is this project's own choice.
 #[tactic(auto, unfolding(crate::specs::ControlEvent::is_kept))]
 fn is_kept(number: D7) -> bool
     ensures { result ≡ is_kept number }
 {
     matches!(number.get(), 0 | 32 | 120..)
-}
-
-/// Whether its log has a count in place of the value: 96, 97, 120, 121 and 123 (RFC 6295, A.3.2
-/// and A.3.3).
-#[tactic(auto, unfolding(crate::specs::ControlEvent::is_counted))]
-fn is_counted(number: D7) -> bool
-    ensures { result ≡ is_counted number }
-{
-    matches!(number.get(), 96 | 97 | 120 | 121 | 123)
 }
 
 /// What this command means for the controllers of this channel.
@@ -94,25 +87,19 @@ fn event_ends(earlier: &ControlEvent, later: &ControlEvent) -> bool
     }
 }
 
-/// Whether one of the later places ends what this event left.
-fn is_ended(event: &ControlEvent, later: &[Sent], channel: Channel) -> bool
-    ensures { result ≡ list_any (λ after. event_ends event.now (event_at channel after)) later.now }
-{
-    later.iter().any(|after| event_ends(event, &control_event(&after.command, channel)))
+/// The controllers of a channel, as items: the last command of each item that is active stands.
+#[derive(Clone, Copy)]
+pub(crate) struct Controls {
+    pub(crate) channel: Channel,
 }
 
-/// What stands of this place's event behind the later places: itself, or `Other` where one of them ends
-/// it.
-pub(crate) fn standing_event(place: &Sent, later: &[Sent], channel: Channel) -> ControlEvent
-    ensures event { result
-        ≡ (if list_any (control_ends channel place.now) later.now then Other else event_at channel place.now) }
-    ensures within { IsWithin result }
-{
-    let event = control_event(&place.command, channel);
-    if is_ended(&event, later, channel) {
-        return ControlEvent::Other;
+impl Items for Controls {
+    ghost ends = { λ s. control_ends s.channel };
+
+    fn is_ended(&self, place: &Sent, later: &Sent) -> bool {
+        let event = control_event(&place.command, self.channel);
+        event_ends(&event, &control_event(&later.command, self.channel))
     }
-    event
 }
 
 /// Whether this event is of this controller.
@@ -139,12 +126,38 @@ fn count_of(session: &[Sent], channel: Channel, number: D7) -> u8
     (count % 64) as u8
 }
 
-/// The second octet of a controller's log: 0 and the value, or 1, 1 and the count (RFC 6295, A.3.2).
-pub(crate) fn value_field(session: &[Sent], channel: Channel, number: D7, value: D7) -> u8
+/// The second octet of a controller's log: 0 and the value, or 1, 1 and the count (RFC 6295, A.3.2). Which
+/// controllers are counted, over the whole session, is this project's own choice.
+fn value_field(session: &[Sent], channel: Channel, number: D7, value: D7) -> u8
     ensures { result ≡ value_field channel session.now number value }
 {
     if is_counted(number) {
         return 192 + count_of(session, channel, number);
     }
     value.get()
+}
+
+/// The logs of a controller with this value: the value or the count, and behind that of Control 64, the
+/// sustain pedal, 1, 0 and its toggles (RFC 6295, A.3.2 and A.3.3). That Control 64 is told by both is this
+/// project's own choice.
+fn set_logs(number: D7, value: D7, session: &[Sent], channel: Channel) -> PlaceLogs
+    ensures { logs_in result ≡ set_logs channel session.now number value }
+{
+    let field = value_field(session, channel, number, value);
+    let log = Log { number, field };
+    if number.get() == 64 {
+        let field = 128 + pedal_after(session, channel).toggles;
+        return PlaceLogs::Two(log, Log { number, field });
+    }
+    PlaceLogs::One(log)
+}
+
+/// The logs of this event of the session.
+pub(crate) fn event_logs(event: ControlEvent, session: &[Sent], channel: Channel) -> PlaceLogs
+    ensures { logs_in result ≡ event_logs channel session.now event }
+{
+    match event {
+        ControlEvent::Set { number, value } => set_logs(number, value, session, channel),
+        ControlEvent::Dropped | ControlEvent::Other => PlaceLogs::Empty,
+    }
 }

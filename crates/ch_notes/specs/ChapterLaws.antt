@@ -1,8 +1,9 @@
 -- Chapter N by the numbers that counting gives.
-use Rattle.std.proofs.Common.{◌≡◌, ℕ, zero, suc, ◌+◌, ◌*◌, ◌-◌, Bool, true, false, cond, ◌||◌, ◌&&◌, eqb, List, [], ◌∷◌, ◌++◌, length, map, get_or, replicate, refl, sym, ap, ◌∙◌, arith, length-append, min}
+use Rattle.std.proofs.Common.{◌≡◌, ℕ, zero, suc, ◌+◌, ◌*◌, ◌-◌, Bool, true, false, cond, not, ◌||◌, ◌&&◌, eqb, List, [], ◌∷◌, ◌++◌, length, map, get_or, replicate, refl, sym, ap, ◌∙◌, arith, length-append, min}
 use Rattle.std.specs.List.{list_any, flat_map, range_with_len}
 use Rattle.std.proofs.lemmas.List.Sums.{sum_by-cons}
 use Rattle.std.proofs.lemmas.List.FromFn.{length-map-range_with_len}
+use Rattle.jm_wire.specs.Heads.{note_octets}
 use Rattle.jm_cmds.specs.declared.history.Sent.{Sent}
 use Rattle.jm_cmds.specs.History.{standing, coded, below}
 use Rattle.jm_cmds.specs.HistoryLaws.{flat_map-standing}
@@ -11,7 +12,7 @@ use Rattle.ch_notes.specs.declared.events.NoteEvent.{NoteEvent}
 use Rattle.ch_notes.specs.declared.events.NoteEvent.TheVariants.{Struck, Released, Cleared, Other}
 use Rattle.ch_notes.specs.declared.shape.Shape.{Shape}
 use Rattle.ch_notes.specs.NoteEvent.{event_at, note_ends, AreWithin}
-use Rattle.ch_notes.specs.Shape.{counted, no_notes, is_bare, first_field, second_field, span, mark_bit, mark_octet, mark_octets, shaped, shape_len}
+use Rattle.ch_notes.specs.Shape.{counted, no_notes, is_bare, shape_head, span, mark_bit, mark_octet, mark_octets, shaped, shape_len}
 use Rattle.ch_notes.specs.ChapterN.{is_struck, is_released, event_log, note_log, y_bit, log_count, released, low_octet, high_octet, note_bit, off_octet, off_octets, chapter_of, chapter_n, fresh_n}
 use Rattle.ch_notes.specs.CountLaws.{counted-logs, counted-off, counted-low, counted-high, counted-fresh_off, counted-fresh, counted-released}
 use Rattle.ch_notes.specs.BitLaws.{map_same}
@@ -48,7 +49,7 @@ bits-released channel packet places w =
 text : (logs off low high : ℕ) (fresh_off : Bool) (lines bits : List ℕ) → List ℕ
 text logs off low high fresh_off lines bits =
     cond (eqb logs 0 && eqb off 0) []
-    ((cond fresh_off 0 128 + min 127 logs) ∷ (16 * low + cond (eqb off 0 && eqb logs 127) 1 high) ∷ (lines ++ bits))
+    (note_octets (record { b = not fresh_off; len = min 127 logs; low = low; high = cond (eqb off 0 && eqb logs 127) 1 high }) ++ (lines ++ bits))
 
 shaped-text : (s : Shape) (lines : List ℕ) → shaped s lines ≡ text s.logs s.off s.low s.high s.fresh_off lines (mark_octets s)
 unfolding text
@@ -101,7 +102,7 @@ length-shaped s lines l =
     let bits = length-map-range_with_len (mark_octet s.released) s.low (span s) in
     let all = length-append lines (mark_octets s) in
     let e : suc (suc (length (lines ++ mark_octets s))) ≡ 2 + 2 * s.logs + span s = omega (arith, l, bits, all) in
-    length-cond (is_bare s) (first_field s ∷ second_field s ∷ (lines ++ mark_octets s)) ∙ ap (λ (n : ℕ). cond (is_bare s) 0 n) e
+    length-cond (is_bare s) (note_octets (shape_head s) ++ (lines ++ mark_octets s)) ∙ ap (λ (n : ℕ). cond (is_bare s) 0 n) e
   where
     length-cond : (b : Bool) (xs : List ℕ) → length (cond b [] xs) ≡ cond b 0 (length xs)
     length-cond true xs = refl
@@ -138,30 +139,13 @@ fresh_n-standing channel checkpoint packet sent places e =
     let test : Sent → Bool = λ place. (is_struck (event_at channel place) || is_released (event_at channel place)) && is_fresh packet place in
     ap (list_any test) (sym e) ∙ sym (counted-fresh channel packet no_notes (standing (note_ends channel) places))
 
--- ## A log at a time
-
-event_log-standing : (s y : ℕ) (b : Bool) (event : NoteEvent) → event_log s y (cond b Other event) ≡ cond b [] (event_log s y event)
-event_log-standing s y true event = refl
-event_log-standing s y false event = refl
-
--- What a loop that writes logs still owes: this place's log, if it stands, and those of the later places.
-pub log_more : (channel packet tick s y : ℕ) (event : NoteEvent) (place : Sent) (rest later : List Sent) →
-    rest ≡ place ∷ later → s ≡ s_bit packet place → y ≡ y_bit tick place → event ≡ cond (list_any (note_ends channel place) later) Other (event_at channel place) →
-    flat_map (note_log channel packet tick) (standing (note_ends channel) rest) ≡ event_log s y event ++ flat_map (note_log channel packet tick) (standing (note_ends channel) later)
-log_more channel packet tick s y event place rest later r p q e =
-    let text = note_log channel packet tick in
-    let ends = note_ends channel in
-    let log : event_log s y event ≡ cond (list_any (ends place) later) [] (text place) =
-    rw (p, q, e) (event_log-standing (s_bit packet place) (y_bit tick place) (list_any (ends place) later) (event_at channel place)) in
-    ap (λ (k : List Sent). flat_map text (standing ends k)) r ∙ flat_map-standing ends text place later ∙ ap (λ (t : List ℕ). t ++ flat_map text (standing ends later)) (sym log)
-
 -- ## The chapter in pieces
 
 pub shaped-bare : (s : Shape) (lines : List ℕ) → is_bare s ≡ true → shaped s lines ≡ []
-shaped-bare s lines b = ap (λ (k : Bool). cond k [] (first_field s ∷ second_field s ∷ (lines ++ mark_octets s))) b
+shaped-bare s lines b = ap (λ (k : Bool). cond k [] (note_octets (shape_head s) ++ (lines ++ mark_octets s))) b
 
-pub shaped-full : (s : Shape) (lines : List ℕ) → is_bare s ≡ false → shaped s lines ≡ first_field s ∷ second_field s ∷ (lines ++ mark_octets s)
-shaped-full s lines b = ap (λ (k : Bool). cond k [] (first_field s ∷ second_field s ∷ (lines ++ mark_octets s))) b
+pub shaped-full : (s : Shape) (lines : List ℕ) → is_bare s ≡ false → shaped s lines ≡ note_octets (shape_head s) ++ (lines ++ mark_octets s)
+shaped-full s lines b = ap (λ (k : Bool). cond k [] (note_octets (shape_head s) ++ (lines ++ mark_octets s))) b
 
 pub length-shaped-full : (s : Shape) (lines : List ℕ) → is_bare s ≡ false → length (shaped s lines) ≡ 2 + (length lines + span s)
 length-shaped-full s lines b =

@@ -1,13 +1,12 @@
 -- How many notes there may be.
 use Rattle.std.proofs.Common.{◌≡◌, ℕ, ◌+◌, ◌/◌, ◌≤◌, ◌<◌, true, false, cond, eqb, List, [], ◌∷◌, Option, Some, None, length, fold, refl, sym, ap, ◌∙◌, arith, inl, inr, min, max}
-use Rattle.std.specs.List.{list_any, AllByRecursion, IsDistinct, filter_map, cons_option}
-use Rattle.std.proofs.lemmas.Bool.{eqb-true, or_cases}
+use Rattle.std.specs.List.{AllByRecursion, filter_map, cons_option}
+use Rattle.std.proofs.lemmas.Bool.{eq-eqb}
 use Rattle.std.proofs.lemmas.List.Sums.{sum_by-cons}
-use Rattle.std.proofs.lemmas.Map.Steps.{length-le_from_distinct_below}
-use Rattle.std.proofs.lemmas.Map.Keys.{IsDistinct-cons}
 use Rattle.jm_cmds.specs.declared.history.Sent.{Sent}
 use Rattle.jm_cmds.specs.History.{standing, Unended}
 use Rattle.jm_cmds.specs.HistoryLaws.{Unended-standing}
+use Rattle.jm_cmds.specs.Keys.{key_count, EndsKey, keys_all, keys_few, none_some}
 use Rattle.ch_notes.specs.declared.events.NoteEvent.{NoteEvent}
 use Rattle.ch_notes.specs.declared.events.NoteEvent.TheVariants.{Struck, Released, Cleared, Other}
 use Rattle.ch_notes.specs.NoteEvent.{event_at, concerns, event_ends, note_ends, IsWithin, AreWithin}
@@ -22,8 +21,9 @@ note_of (Released note velocity) = Some note
 note_of Cleared = None
 note_of Other = None
 
-abbrev pub notes_of : ℕ → List Sent → List ℕ
-notes_of channel places = filter_map (λ place. note_of (event_at channel place)) places
+-- the key of a note's place
+abbrev pub note_key : (channel : ℕ) → Sent → Option ℕ
+note_key channel place = note_of (event_at channel place)
 
 -- each note has a log or a bit
 step-notes : (event : NoteEvent) (logs : ℕ) (off notes : List ℕ) → logs + length off ≡ length notes →
@@ -33,67 +33,50 @@ step-notes (Released note velocity) logs off notes h = omega (arith, h)
 step-notes Cleared logs off notes h = omega (arith, h)
 step-notes Other logs off notes h = omega (arith, h)
 
-logs-and-off : (channel : ℕ) (places : List Sent) → log_count channel places + length (released channel places) ≡ length (notes_of channel places)
+logs-and-off : (channel : ℕ) (places : List Sent) → log_count channel places + length (released channel places) ≡ key_count (note_key channel) places
 logs-and-off channel [] = refl
 logs-and-off channel (x ∷ xs) =
     let more = sum_by-cons (λ place. cond (is_struck (event_at channel place)) 1 0) x xs in
     ap (λ n. n + length (released channel (x ∷ xs))) more
-    ∙ step-notes (event_at channel x) (log_count channel xs) (released channel xs) (notes_of channel xs) (logs-and-off channel xs)
+    ∙ step-notes (event_at channel x) (log_count channel xs) (released channel xs) (filter_map (note_key channel) xs) (logs-and-off channel xs)
 
--- a note that no later event concerns stands apart from the later notes
-step-apart : (note : ℕ) (event : NoteEvent) (notes : List ℕ) → concerns note event ≡ false → AllByRecursion (λ m. eqb note m ≡ false) notes → AllByRecursion (λ m. eqb note m ≡ false) (cons_option (note_of event) notes)
-step-apart note (Struck other velocity) notes e h = (e, h)
-step-apart note (Released other velocity) notes e h = (e, h)
-step-apart note Cleared notes e h = h
-step-apart note Other notes e h = h
+-- a note's command ends the one before it
+concerned : (note : ℕ) (event : NoteEvent) → note_of event ≡ Some note → concerns note event ≡ true
+concerned note (Struck other velocity) e = let same : other ≡ note = cc in eq-eqb note other (sym same)
+concerned note (Released other velocity) e = let same : other ≡ note = cc in eq-eqb note other (sym same)
+concerned note Cleared e = absurd (none_some note e)
+concerned note Other e = absurd (none_some note e)
 
-apart : (channel note : ℕ) (places : List Sent) → AllByRecursion (λ place. concerns note (event_at channel place) ≡ false) places → AllByRecursion (λ m. eqb note m ≡ false) (notes_of channel places)
-apart channel note [] h = tt
-apart channel note (x ∷ xs) h = step-apart note (event_at channel x) (notes_of channel xs) h.0 (apart channel note xs h.1)
+meets : (a b : NoteEvent) (k : ℕ) → note_of a ≡ Some k → note_of b ≡ Some k → event_ends a b ≡ true
+meets (Struck note velocity) b k p q = let same : note ≡ k = cc in rw same (concerned k b q)
+meets (Released note velocity) b k p q = let same : note ≡ k = cc in rw same (concerned k b q)
+meets Cleared b k p q = absurd (none_some k p)
+meets Other b k p q = absurd (none_some k p)
 
-step-distinct : (channel : ℕ) (event : NoteEvent) (places : List Sent) → AllByRecursion (λ place. event_ends event (event_at channel place) ≡ false) places → IsDistinct eqb (notes_of channel places) → IsDistinct eqb (cons_option (note_of event) (notes_of channel places))
-step-distinct channel (Struck note velocity) places h d = IsDistinct-cons eqb note (notes_of channel places) (apart channel note places h) d
-step-distinct channel (Released note velocity) places h d = IsDistinct-cons eqb note (notes_of channel places) (apart channel note places h) d
-step-distinct channel Cleared places h d = d
-step-distinct channel Other places h d = d
+EndsKey-note : (channel : ℕ) → EndsKey (note_ends channel) (note_key channel)
+EndsKey-note channel = λ x y k p q. meets (event_at channel x) (event_at channel y) k p q
 
-IsDistinct-notes : (channel : ℕ) (places : List Sent) → Unended (note_ends channel) places → IsDistinct eqb (notes_of channel places)
-unfolding IsDistinct
-IsDistinct-notes channel [] h = tt
-IsDistinct-notes channel (x ∷ xs) h = step-distinct channel (event_at channel x) xs h.0 (IsDistinct-notes channel xs h.1)
+step-below : (event : NoteEvent) (k : ℕ) → IsWithin event → note_of event ≡ Some k → k < 128
+step-below (Struck note velocity) k w e = let same : note ≡ k = cc in omega (arith, w.0, same)
+step-below (Released note velocity) k w e = let same : note ≡ k = cc in omega (arith, w, same)
+step-below Cleared k w e = absurd (none_some k e)
+step-below Other k w e = absurd (none_some k e)
 
-step-below : (event : NoteEvent) (notes : List ℕ) → IsWithin event → AllByRecursion (λ n. n < 128) notes → AllByRecursion (λ n. n < 128) (cons_option (note_of event) notes)
-step-below (Struck note velocity) notes w h = (w.0, h)
-step-below (Released note velocity) notes w h = (w, h)
-step-below Cleared notes w h = h
-step-below Other notes w h = h
-
-notes-below : (channel : ℕ) (places : List Sent) → AreWithin channel places → AllByRecursion (λ n. n < 128) (notes_of channel places)
-notes-below channel [] w = tt
-notes-below channel (x ∷ xs) w = step-below (event_at channel x) (notes_of channel xs) w.0 (notes-below channel xs w.1)
-
-found-below : (notes : List ℕ) (q : ℕ) → AllByRecursion (λ n. n < 128) notes → list_any (eqb q) notes ≡ true → q < 128
-found-below [] q h e = absurd (let f : false ≡ true = e in cc)
-found-below (n ∷ ns) q h e =
-    elim (or_cases (eqb q n) (list_any (eqb q) ns) e) [
-      | inl t ↦ let same : q ≡ n = eqb-true q n t in omega (arith, same, h.0)
-      | inr later ↦ found-below ns q h.1 later
-    ]
-
-pub notes-few : (channel : ℕ) (places : List Sent) → Unended (note_ends channel) places → AreWithin channel places → length (notes_of channel places) ≤ 128
+-- there are 128 notes
+pub notes-few : (channel : ℕ) (places : List Sent) → Unended (note_ends channel) places → AreWithin channel places → key_count (note_key channel) places ≤ 128
 notes-few channel places u w =
-    length-le_from_distinct_below (notes_of channel places) 128 (IsDistinct-notes channel places u)
-    (λ q e. found-below (notes_of channel places) q (notes-below channel places w) e)
+    let below = keys_all (λ place. IsWithin (event_at channel place)) (λ k. k < 128) (note_key channel) (λ place k b e. step-below (event_at channel place) k b e) places w in
+    keys_few (note_ends channel) (note_key channel) (EndsKey-note channel) 128 places u below
 
-step-released-below : (event : NoteEvent) (notes : List ℕ) → IsWithin event → AllByRecursion (λ n. n < 128) notes → AllByRecursion (λ n. n < 128) (cons_option (released_note event) notes)
-step-released-below (Struck note velocity) notes w h = h
-step-released-below (Released note velocity) notes w h = (w, h)
-step-released-below Cleared notes w h = h
-step-released-below Other notes w h = h
+released-below_one : (event : NoteEvent) (k : ℕ) → IsWithin event → released_note event ≡ Some k → k < 128
+released-below_one (Struck note velocity) k w e = absurd (none_some k e)
+released-below_one (Released note velocity) k w e = let same : note ≡ k = cc in omega (arith, w, same)
+released-below_one Cleared k w e = absurd (none_some k e)
+released-below_one Other k w e = absurd (none_some k e)
 
 pub released-below : (channel : ℕ) (places : List Sent) → AreWithin channel places → AllByRecursion (λ n. n < 128) (released channel places)
-released-below channel [] w = tt
-released-below channel (x ∷ xs) w = step-released-below (event_at channel x) (released channel xs) w.0 (released-below channel xs w.1)
+released-below channel places w =
+    keys_all (λ place. IsWithin (event_at channel place)) (λ k. k < 128) (λ place. released_note (event_at channel place)) (λ place k b e. released-below_one (event_at channel place) k b e) places w
 
 low-le : (start : ℕ) (notes : List ℕ) → start ≤ 15 → fold (λ low note. min low (note / 8)) start notes ≤ 15
 low-le start [] h = h

@@ -1,7 +1,7 @@
 -- What counting the places gives: the numbers of Chapter N.
 use Rattle.std.proofs.Common.{◌≡◌, ◌≢◌, ℕ, ◌+◌, ◌/◌, ◌<◌, Bool, true, false, cond, ◌&&◌, ◌||◌, eqb, List, [], ◌∷◌, length, fold, get_or, set, refl, sym, ap, ◌∙◌, arith, inl, inr, length-set, min, max}
 use Rattle.std.specs.List.{list_any, cons_option}
-use Rattle.std.proofs.Math.Bool.{or_assoc}
+use Rattle.std.proofs.Math.Bool.{or_assoc, or-false}
 use Rattle.std.proofs.lemmas.Bool.{cases_Bool, eqb-true, eqb-false}
 use Rattle.std.proofs.lemmas.List.Sums.{sum_by-cons}
 use Rattle.std.proofs.lemmas.List.{get_or-set_same, get_or-set_other}
@@ -69,18 +69,14 @@ counted-high channel packet s (x ∷ xs) =
     let event = event_at channel x in
     counted-high channel packet (shape_step s fresh event) xs ∙ step-high s fresh event (released channel xs)
 
-or_false : (a : Bool) → (a || false) ≡ a
-or_false true = refl
-or_false false = refl
-
 step-fresh_off : (s : Shape) (fresh : Bool) (event : NoteEvent) → (shape_step s fresh event).fresh_off ≡ (s.fresh_off || (is_released event && fresh))
-step-fresh_off s fresh (Struck note velocity) = sym (or_false s.fresh_off)
+step-fresh_off s fresh (Struck note velocity) = sym (or-false s.fresh_off)
 step-fresh_off s fresh (Released note velocity) = refl
-step-fresh_off s fresh Cleared = sym (or_false s.fresh_off)
-step-fresh_off s fresh Other = sym (or_false s.fresh_off)
+step-fresh_off s fresh Cleared = sym (or-false s.fresh_off)
+step-fresh_off s fresh Other = sym (or-false s.fresh_off)
 
 pub counted-fresh_off : (channel packet : ℕ) (s : Shape) (places : List Sent) → (counted channel packet s places).fresh_off ≡ (s.fresh_off || list_any (λ place. is_released (event_at channel place) && is_fresh packet place) places)
-counted-fresh_off channel packet s [] = sym (or_false s.fresh_off)
+counted-fresh_off channel packet s [] = sym (or-false s.fresh_off)
 counted-fresh_off channel packet s (x ∷ xs) =
     let fresh = is_fresh packet x in
     let event = event_at channel x in
@@ -118,7 +114,7 @@ step-released s fresh Other notes n w l = refl
 
 pub counted-released : (channel packet : ℕ) (s : Shape) (places : List Sent) (n : ℕ) → AreWithin channel places → length s.released ≡ 128 →
     get_or (counted channel packet s places).released n false ≡ (get_or s.released n false || list_any (λ m. eqb m n) (released channel places))
-counted-released channel packet s [] n w l = sym (or_false (get_or s.released n false))
+counted-released channel packet s [] n w l = sym (or-false (get_or s.released n false))
 counted-released channel packet s (x ∷ xs) n w l =
     let fresh = is_fresh packet x in
     let event = event_at channel x in
@@ -128,11 +124,11 @@ counted-released channel packet s (x ∷ xs) n w l =
 step-fresh : (s : Shape) (is_new : Bool) (event : NoteEvent) → (shape_step s is_new event).fresh ≡ (s.fresh || ((is_struck event || is_released event) && is_new))
 step-fresh s is_new (Struck note velocity) = refl
 step-fresh s is_new (Released note velocity) = refl
-step-fresh s is_new Cleared = sym (or_false s.fresh)
-step-fresh s is_new Other = sym (or_false s.fresh)
+step-fresh s is_new Cleared = sym (or-false s.fresh)
+step-fresh s is_new Other = sym (or-false s.fresh)
 
 pub counted-fresh : (channel packet : ℕ) (s : Shape) (places : List Sent) → (counted channel packet s places).fresh ≡ (s.fresh || list_any (λ place. (is_struck (event_at channel place) || is_released (event_at channel place)) && is_fresh packet place) places)
-counted-fresh channel packet s [] = sym (or_false s.fresh)
+counted-fresh channel packet s [] = sym (or-false s.fresh)
 counted-fresh channel packet s (x ∷ xs) =
     let is_new = is_fresh packet x in
     let event = event_at channel x in

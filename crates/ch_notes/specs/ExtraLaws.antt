@@ -1,87 +1,73 @@
--- Chapter E, a place at a time, and how many logs it may have.
-use Rattle.std.proofs.Common.{◌≡◌, ℕ, ◌+◌, ◌≤◌, Bool, true, false, cond, eqb, leb, ltb, Option, Some, None, List, [], ◌∷◌, length, refl, sym, ap, ◌∙◌, arith}
-use Rattle.std.specs.List.{cons_option, AllByRecursion}
-use Rattle.std.specs.Option.{is_some}
-use Rattle.std.proofs.lemmas.List.Sums.{sum_by-cons}
+-- How many logs Chapter E may have, and what its octets show.
+use Rattle.std.proofs.Common.{◌≡◌, ℕ, ◌+◌, ◌≤◌, ◌<◌, Bool, true, false, cond, eqb, leb, ltb, List, [], ◌∷◌, length, refl, sym, ap, ◌∙◌, arith, length-append, lit≤, inl, inr}
+use Rattle.std.specs.List.{cons_option, filter_map, flat_map, AllByRecursion}
+use Rattle.std.proofs.lemmas.Bool.{cases_Bool}
 use Rattle.jm_cmds.specs.Sent.{shows_fresh as header_shows_fresh}
 use Rattle.jm_cmds.specs.declared.history.Sent.{Sent}
 use Rattle.jm_cmds.specs.Command.{IsCommand}
-use Rattle.jm_cmds.specs.History.{standing, coded, below, Unended}
-use Rattle.jm_cmds.specs.HistoryLaws.{Unended-standing, Unended-coded, AllByRecursion-filter, AllByRecursion-standing, AllByRecursion-weaker}
+use Rattle.jm_cmds.specs.History.{standing, below, Unended}
+use Rattle.jm_cmds.specs.HistoryLaws.{Unended-coded, AllByRecursion-filter, AllByRecursion-standing, AllByRecursion-weaker}
 use Rattle.jm_cmds.specs.Sent.{packet_of}
 use Rattle.ch_notes.specs.declared.events.NoteEvent.{NoteEvent}
 use Rattle.ch_notes.specs.declared.events.NoteEvent.TheVariants.{Struck, Released, Cleared, Other}
 use Rattle.ch_notes.specs.NoteEvent.{event_at, note_ends, IsWithin, AreWithin}
-use Rattle.ch_notes.specs.CountBounds.{note_of, notes_of, notes-few}
+use Rattle.ch_notes.specs.CountBounds.{note_of, note_key, notes-few}
 use Rattle.ch_notes.specs.FreshLaws.{IsWithin-event}
 use Rattle.ch_notes.specs.ChapterN.{coded_notes}
-use Rattle.jm_cmds.specs.Listed.{listed, count_logs, has_fresh, log_shows_fresh}
-use Rattle.jm_cmds.specs.ListedLaws.{FitsLog, listed-shows}
-use Rattle.ch_notes.specs.ChapterE.{ref_count, extra_log, extra_at, chapter_e, fresh_e}
-
-pub extra-standing : (channel : ℕ) (session : List Sent) (b : Bool) (event : NoteEvent) → extra_log channel session (cond b Other event) ≡ cond b None (extra_log channel session event)
-extra-standing channel session true event = refl
-extra-standing channel session false event = refl
+use Rattle.jm_cmds.specs.Keys.{key_count}
+use Rattle.jm_chapter.specs.Logs.{log_count, log_shows_fresh}
+use Rattle.jm_chapter.specs.LogsLaws.{FitLogs, listed-shows}
+use Rattle.ch_notes.specs.ChapterE.{ref_count, struck_logs, released_logs, extra_logs, extra_at, chapter_e, fresh_e}
 
 -- ## How many logs
 
-one : (b : Bool) (logs notes : ℕ) → logs ≤ notes → cond b 1 0 + logs ≤ notes + 1
-one true logs notes h = omega arith
-one false logs notes h = omega arith
+struck-few : (note count : ℕ) → length (struck_logs note count) ≤ 1
+struck-few note count = elim (cases_Bool (eqb count 1)) [ inl t ↦ rw t (lit≤ tt) | inr f ↦ rw f (lit≤ tt) ]
 
-step-count : (channel : ℕ) (session : List Sent) (event : NoteEvent) (logs : ℕ) (notes : List ℕ) → logs ≤ length notes →
-    cond (is_some (extra_log channel session event)) 1 0 + logs ≤ length (cons_option (note_of event) notes)
-step-count channel session (Struck note velocity) logs notes h = omega (arith, one (is_some (extra_log channel session (Struck note velocity))) logs (length notes) h)
-step-count channel session (Released note velocity) logs notes h = omega (arith, one (is_some (extra_log channel session (Released note velocity))) logs (length notes) h)
-step-count channel session Cleared logs notes h = omega (arith, h)
-step-count channel session Other logs notes h = omega (arith, h)
+released-few : (note velocity count : ℕ) → length (released_logs note velocity count) ≤ 1
+released-few note velocity count =
+    elim (cases_Bool (eqb count 0)) [
+      | inl t ↦ elim (cases_Bool (eqb velocity 64)) [ inl u ↦ rw (t, u) (lit≤ tt) | inr f ↦ rw (t, f) (lit≤ tt) ]
+      | inr f ↦ rw f (lit≤ tt)
+    ]
 
-logs-notes : (channel : ℕ) (session places : List Sent) → count_logs (extra_at channel session) places ≤ length (notes_of channel places)
+step-few : (channel : ℕ) (session : List Sent) (event : NoteEvent) (notes : List ℕ) → length (extra_logs channel session event) + length notes ≤ length (cons_option (note_of event) notes)
+step-few channel session (Struck note velocity) notes = omega (arith, struck-few note (ref_count channel note session))
+step-few channel session (Released note velocity) notes = omega (arith, released-few note velocity (ref_count channel note session))
+step-few channel session Cleared notes = omega arith
+step-few channel session Other notes = omega arith
+
+logs-notes : (channel : ℕ) (session places : List Sent) → log_count (extra_at channel session) places ≤ key_count (note_key channel) places
 logs-notes channel session [] = omega arith
 logs-notes channel session (x ∷ xs) =
-    let more = sum_by-cons (λ place. cond (is_some (extra_at channel session place)) 1 0) x xs in
-    let step = step-count channel session (event_at channel x) (count_logs (extra_at channel session) xs) (notes_of channel xs) (logs-notes channel session xs) in
-    omega (arith, more, step)
+    omega (
+      arith,
+      length-append (extra_at channel session x) (flat_map (extra_at channel session) xs),
+      step-few channel session (event_at channel x) (filter_map (note_key channel) xs),
+      logs-notes channel session xs,
+    )
 
 -- there are 128 notes
-pub extra-few : (channel : ℕ) (session places : List Sent) → Unended (note_ends channel) places → AreWithin channel places → count_logs (extra_at channel session) places ≤ 128
+pub extra-few : (channel : ℕ) (session places : List Sent) → Unended (note_ends channel) places → AreWithin channel places → log_count (extra_at channel session) places ≤ 128
 extra-few channel session places u w = omega (arith, logs-notes channel session places, notes-few channel places u w)
-
-pub extra-few-standing : (channel : ℕ) (session places : List Sent) → AreWithin channel (standing (note_ends channel) places) → count_logs (extra_at channel session) (standing (note_ends channel) places) ≤ 128
-extra-few-standing channel session places w = extra-few channel session (standing (note_ends channel) places) (Unended-standing (note_ends channel) places) w
-
--- ## The chapter of a history
-
-pub chapter_e-standing : (channel checkpoint packet : ℕ) (sent places session : List Sent) →
-    standing (note_ends channel) places ≡ coded (note_ends channel) packet_of checkpoint (below packet_of packet sent) → session ≡ below packet_of packet sent →
-    chapter_e channel checkpoint packet sent ≡ listed (extra_at channel session) packet (standing (note_ends channel) places)
-unfolding chapter_e
-chapter_e-standing channel checkpoint packet sent places session e s =
-    ap (listed (extra_at channel (below packet_of packet sent)) packet) (sym e) ∙ ap (λ (k : List Sent). listed (extra_at channel k) packet (standing (note_ends channel) places)) (sym s)
-
-pub fresh_e-standing : (channel checkpoint packet : ℕ) (sent places session : List Sent) →
-    standing (note_ends channel) places ≡ coded (note_ends channel) packet_of checkpoint (below packet_of packet sent) → session ≡ below packet_of packet sent →
-    fresh_e channel checkpoint packet sent ≡ has_fresh (extra_at channel session) packet (standing (note_ends channel) places)
-unfolding fresh_e
-fresh_e-standing channel checkpoint packet sent places session e s =
-    ap (has_fresh (extra_at channel (below packet_of packet sent)) packet) (sym e) ∙ ap (λ (k : List Sent). has_fresh (extra_at channel k) packet (standing (note_ends channel) places)) (sym s)
 
 -- ## What the octets show
 
-FitsLog-if : (b : Bool) (one other : Option _) → FitsLog one → FitsLog other → FitsLog (cond b one other)
-FitsLog-if true one other h k = h
-FitsLog-if false one other h k = k
+FitLogs-struck : (note count : ℕ) → note < 128 → FitLogs (struck_logs note count)
+FitLogs-struck note count w = elim (cases_Bool (eqb count 1)) [ inl t ↦ rw t tt | inr f ↦ rw f (w, tt) ]
 
-FitsLog-extra : (channel : ℕ) (session : List Sent) (event : NoteEvent) → IsWithin event → FitsLog (extra_log channel session event)
-FitsLog-extra channel session (Struck note velocity) w =
-    let count = ref_count channel note session in
-    FitsLog-if (eqb count 1) None (Some (record { number = note; field = count })) tt w.0
-FitsLog-extra channel session (Released note velocity) w =
-    let count = ref_count channel note session in
-    FitsLog-if (eqb count 0) (cond (eqb velocity 64) None (Some (record { number = note; field = 128 + velocity }))) (Some (record { number = note; field = count }))
-    (FitsLog-if (eqb velocity 64) None (Some (record { number = note; field = 128 + velocity })) tt w) w
-FitsLog-extra channel session Cleared w = tt
-FitsLog-extra channel session Other w = tt
+FitLogs-released : (note velocity count : ℕ) → note < 128 → FitLogs (released_logs note velocity count)
+FitLogs-released note velocity count w =
+    elim (cases_Bool (eqb count 0)) [
+      | inl t ↦ elim (cases_Bool (eqb velocity 64)) [ inl u ↦ rw (t, u) tt | inr f ↦ rw (t, f) (w, tt) ]
+      | inr f ↦ rw f (w, tt)
+    ]
+
+FitLogs-extra : (channel : ℕ) (session : List Sent) (event : NoteEvent) → IsWithin event → FitLogs (extra_logs channel session event)
+FitLogs-extra channel session (Struck note velocity) w = FitLogs-struck note (ref_count channel note session) w.0
+FitLogs-extra channel session (Released note velocity) w = FitLogs-released note velocity (ref_count channel note session) w
+FitLogs-extra channel session Cleared w = tt
+FitLogs-extra channel session Other w = tt
 
 pub fresh_e-shows : (channel checkpoint packet : ℕ) (sent : List Sent) → AllByRecursion (λ place. IsCommand place.command) sent →
     (fresh_e channel checkpoint packet sent ≡ header_shows_fresh (chapter_e channel checkpoint packet sent))
@@ -95,5 +81,5 @@ fresh_e-shows channel checkpoint packet sent h =
     let within_standing = AllByRecursion-standing (λ place. IsWithin (event_at channel place)) (note_ends channel) seen within_seen in
     let w : AreWithin channel places = AllByRecursion-filter (λ place. IsWithin (event_at channel place)) (λ place. leb checkpoint (packet_of place)) (standing (note_ends channel) seen) within_standing in
     let few = extra-few channel seen places (Unended-coded (note_ends channel) packet_of checkpoint seen) w in
-    let fits = AllByRecursion-weaker (λ (place : Sent). IsWithin (event_at channel place)) (λ place. FitsLog (extra_at channel seen place)) (λ place b. FitsLog-extra channel seen (event_at channel place) b) places w in
+    let fits = AllByRecursion-weaker (λ (place : Sent). IsWithin (event_at channel place)) (λ place. FitLogs (extra_at channel seen place)) (λ place b. FitLogs-extra channel seen (event_at channel place) b) places w in
     listed-shows (extra_at channel seen) packet places fits few

@@ -7,7 +7,7 @@ use Rattle.jm_cmds.specs.Command.{IsCommand}
 use Rattle.ch_notes.specs.ChapterN.{chapter_n, fresh_n}
 use Rattle.ch_notes.specs.ChapterE.{chapter_e, fresh_e}
 use Rattle.ch_notes.specs.ChapterA.{chapter_a, fresh_a}
-use Rattle.jm_cmds.specs.Listed.{log_shows_fresh}
+use Rattle.jm_chapter.specs.Logs.{log_shows_fresh}
 
 -- the number of logs: LEN, but 128 where LEN is 127, LOW 15 and HIGH 0
 abbrev pub log_number : ℕ → ℕ → ℕ

@@ -1,8 +1,9 @@
 -- A chapter shows what the packet before brought.
-use Rattle.std.proofs.Common.{◌≡◌, ℕ, suc, ◌+◌, ◌*◌, ◌%◌, ◌≤◌, Bool, true, false, cond, ◌||◌, ◌&&◌, eqb, ltb, leb, List, [], ◌∷◌, ◌++◌, length, refl, sym, ap, ◌∙◌, arith, inl, inr, append_assoc, min}
+use Rattle.std.proofs.Common.{◌≡◌, ℕ, suc, ◌+◌, ◌*◌, ◌%◌, ◌≤◌, Bool, true, false, cond, not, ◌||◌, ◌&&◌, eqb, ltb, leb, List, [], ◌∷◌, ◌++◌, length, refl, sym, ap, ◌∙◌, arith, inl, inr, append_assoc, min}
 use Rattle.std.specs.List.{list_any, AllByRecursion, flat_map, cons_option}
 use Rattle.std.proofs.lemmas.Bool.{cases_Bool, lt-ltb, le-ltb, eqb-true, eqb-false, ne_eqb, eq-eqb, and_parts, cases_lt, cases_eq}
 use Rattle.std.proofs.lemmas.List.Sums.{sum_by-cons}
+use Rattle.jm_wire.specs.Heads.{bit}
 use Rattle.jm_cmds.specs.declared.history.Sent.{Sent}
 use Rattle.jm_cmds.specs.declared.commands.Command.{Command}
 use Rattle.jm_cmds.specs.declared.commands.Command.TheVariants.{NoteOff, NoteOn}
@@ -15,8 +16,8 @@ use Rattle.ch_notes.specs.declared.events.NoteEvent.{NoteEvent}
 use Rattle.ch_notes.specs.declared.events.NoteEvent.TheVariants.{Struck, Released, Cleared, Other}
 use Rattle.ch_notes.specs.declared.shape.Shape.{Shape}
 use Rattle.ch_notes.specs.NoteEvent.{note_event, event_at, note_ends, IsWithin, AreWithin}
-use Rattle.ch_notes.specs.Shape.{counted, no_notes, is_bare, first_field, second_field, mark_octets, shaped}
-use Rattle.ch_notes.specs.ChapterN.{is_struck, is_released, event_log, note_log, y_bit, log_count, released, released_note, coded_notes, chapter_n, fresh_n}
+use Rattle.ch_notes.specs.Shape.{counted, no_notes, is_bare, shape_head, high_field, mark_octets, shaped}
+use Rattle.ch_notes.specs.ChapterN.{is_struck, is_released, event_log, note_log, y_bit, log_count, released, released_note, released_fresh, coded_notes, chapter_n, fresh_n}
 use Rattle.ch_notes.specs.Count.{IsCount}
 use Rattle.ch_notes.specs.CountLaws.{counted-logs, counted-off, counted-fresh_off}
 use Rattle.ch_notes.specs.CountBounds.{IsCount-unended}
@@ -54,16 +55,13 @@ mix true false false x y = refl
 mix false true false x y = refl
 mix false false false x y = refl
 
-released_fresh : ℕ → ℕ → List Sent → Bool
-released_fresh channel packet places = list_any (λ place. is_released (event_at channel place) && is_fresh packet place) places
-
-struck_fresh : ℕ → ℕ → List Sent → Bool
+struck_fresh : (channel packet : ℕ) → List Sent → Bool
 struck_fresh channel packet places = list_any (λ place. is_struck (event_at channel place) && is_fresh packet place) places
 
 both-fresh : (channel packet : ℕ) (places : List Sent) →
     list_any (λ place. (is_struck (event_at channel place) || is_released (event_at channel place)) && is_fresh packet place) places
     ≡ (released_fresh channel packet places || struck_fresh channel packet places)
-unfolding released_fresh struck_fresh
+unfolding struck_fresh
 both-fresh channel packet [] = refl
 both-fresh channel packet (x ∷ xs) =
     let a = is_struck (event_at channel x) in
@@ -80,7 +78,6 @@ step-none Cleared fresh notes e = (refl, e)
 step-none Other fresh notes e = (refl, e)
 
 none-released : (channel packet : ℕ) (places : List Sent) → length (released channel places) ≡ 0 → released_fresh channel packet places ≡ false
-unfolding released_fresh
 none-released channel packet [] e = refl
 none-released channel packet (x ∷ xs) e =
     let h = step-none (event_at channel x) (is_fresh packet x) (released channel xs) e in
@@ -115,6 +112,13 @@ clear-logs channel packet tick (x ∷ xs) rest w =
     ∙ ap (λ (b : Bool). (is_struck (event_at channel x) && is_fresh packet x) || b) (clear-logs channel packet tick xs rest w.1)
 
 -- ## The header
+
+-- its octets
+abbrev first_field : Shape → ℕ
+first_field s = 128 * bit (not s.fresh_off) + min 127 s.logs
+
+abbrev second_field : Shape → ℕ
+second_field s = 16 * s.low + high_field s
 
 first-shows : (s : Shape) → ltb (first_field s) 128 ≡ s.fresh_off
 first-shows s =
@@ -172,7 +176,7 @@ number-of-logs s k =
 shaped-shows : (channel packet tick : ℕ) (places : List Sent) → IsCount (counted channel packet no_notes places) → AreWithin channel places →
     (released_fresh channel packet places || struck_fresh channel packet places)
     ≡ shows_fresh (shaped (counted channel packet no_notes places) (flat_map (note_log channel packet tick) places))
-unfolding released_fresh struck_fresh
+unfolding struck_fresh
 shaped-shows channel packet tick places k w =
     let s = counted channel packet no_notes places in
     let lines = flat_map (note_log channel packet tick) places in

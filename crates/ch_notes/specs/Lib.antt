@@ -1,7 +1,6 @@
 pub mod NoteEvent
 pub mod ChapterN
 pub mod Shape
-pub mod ShapeLaws
 pub mod Count
 pub mod CountLaws
 pub mod CountBounds

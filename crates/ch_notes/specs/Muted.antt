@@ -1,7 +1,7 @@
 -- What the X bit of Chapter A tells (RFC 6295, A.9).
-use Rattle.std.proofs.Common.{◌≡◌, ℕ, Bool, true, false, cond, ◌||◌, List, [], ◌∷◌, ◌++◌, fold, refl, ap, ◌∙◌}
+use Rattle.std.proofs.Common.{◌≡◌, ℕ, Bool, true, false, cond, ◌||◌, List, [], ◌∷◌, ◌++◌, fold, refl, sym, ap, ◌∙◌}
 use Rattle.std.specs.List.{list_any}
-use Rattle.std.proofs.Math.Bool.{or_assoc}
+use Rattle.std.proofs.Math.Bool.{or_assoc, or-false}
 use Rattle.std.proofs.lemmas.Bool.{or_parts, eq-eqb}
 use Rattle.std.proofs.lemmas.List.Sums.{fold-append}
 use Rattle.jm_cmds.specs.declared.history.Sent.{Sent}
@@ -17,13 +17,9 @@ XTellsActivity = (channel note value : ℕ) (before later : List Sent) (place : 
     list_any (λ after. presses note (poly_at channel after)) later ≡ false →
     is_muted channel note (before ++ place ∷ later) ≡ list_any (λ after. ends_notes channel after.command) later
 
-or_false : (a : Bool) → a ≡ (a || false)
-or_false true = refl
-or_false false = refl
-
 muted-on : (channel note : ℕ) (muted : Bool) (later : List Sent) → list_any (λ after. presses note (poly_at channel after)) later ≡ false →
     fold (muted_step channel note) muted later ≡ (muted || list_any (λ after. ends_notes channel after.command) later)
-muted-on channel note muted [] h = or_false muted
+muted-on channel note muted [] h = sym (or-false muted)
 muted-on channel note muted (x ∷ xs) h =
     let parts = or_parts (presses note (poly_at channel x)) (list_any (λ after. presses note (poly_at channel after)) xs) h in
     let ended : Bool = ends_notes channel x.command in

@@ -56,11 +56,6 @@ abbrev pub is_poly : Command → Bool
 is_poly (PolyPressure at note value) = true
 is_poly command = false
 
-abbrev pub is_pressed : PolyEvent → Bool
-is_pressed (Pressed note value) = true
-is_pressed Dropped = false
-is_pressed Other = false
-
 -- whether it is a pressure on this note
 abbrev pub presses : ℕ → PolyEvent → Bool
 presses note (Pressed other value) = note == other

@@ -45,28 +45,28 @@ poly_key-other channel command e = dropped-none (ends_controllers channel comman
 -- ## One command more
 
 -- One more command makes the coded notes at most one more.
-pub poly_count-push : (channel from : ℕ) (sent : List Sent) (last : Sent) → from ≤ last.packet → poly_count channel from (sent ++ last ∷ []) ≤ poly_count channel from sent + 1
+pub poly_count-push : (channel checkpoint : ℕ) (sent : List Sent) (last : Sent) → checkpoint ≤ last.packet → poly_count channel checkpoint (sent ++ last ∷ []) ≤ poly_count channel checkpoint sent + 1
 unfolding poly_count
-poly_count-push channel from sent last l = keys_push (poly_ends channel) packet_of (poly_key channel) from sent last l
+poly_count-push channel checkpoint sent last l = keys_push (poly_ends channel) packet_of (poly_key channel) checkpoint sent last l
 
 -- One that presses no key of the channel makes them no more.
-pub poly_count-other : (channel from : ℕ) (sent : List Sent) (last : Sent) → from ≤ last.packet → poly_key channel last ≡ None → poly_count channel from (sent ++ last ∷ []) ≤ poly_count channel from sent
+pub poly_count-other : (channel checkpoint : ℕ) (sent : List Sent) (last : Sent) → checkpoint ≤ last.packet → poly_key channel last ≡ None → poly_count channel checkpoint (sent ++ last ∷ []) ≤ poly_count channel checkpoint sent
 unfolding poly_count
-poly_count-other channel from sent last l e = keys_none (poly_ends channel) packet_of (poly_key channel) from sent last l e
+poly_count-other channel checkpoint sent last l e = keys_none (poly_ends channel) packet_of (poly_key channel) checkpoint sent last l e
 
 -- Nor does one on a note that is coded.
-pub poly_count-met : (channel from note : ℕ) (sent : List Sent) (last : Sent) → from ≤ last.packet → poly_key channel last ≡ Some note → has_poly channel from note sent ≡ true → poly_count channel from (sent ++ last ∷ []) ≤ poly_count channel from sent
+pub poly_count-met : (channel checkpoint note : ℕ) (sent : List Sent) (last : Sent) → checkpoint ≤ last.packet → poly_key channel last ≡ Some note → has_poly channel checkpoint note sent ≡ true → poly_count channel checkpoint (sent ++ last ∷ []) ≤ poly_count channel checkpoint sent
 unfolding poly_count has_poly
-poly_count-met channel from note sent last l e h = keys_met (poly_ends channel) packet_of (poly_key channel) (EndsKey-poly channel) from sent last note l e h
+poly_count-met channel checkpoint note sent last l e h = keys_met (poly_ends channel) packet_of (poly_key channel) (EndsKey-poly channel) checkpoint sent last note l e h
 
 -- A later checkpoint makes them no more.
-pub poly_count-later : (channel from later : ℕ) (sent : List Sent) → from ≤ later → poly_count channel later sent ≤ poly_count channel from sent
+pub poly_count-later : (channel checkpoint later : ℕ) (sent : List Sent) → checkpoint ≤ later → poly_count channel later sent ≤ poly_count channel checkpoint sent
 unfolding poly_count
-poly_count-later channel from later sent l = keys_later (poly_ends channel) packet_of (poly_key channel) from later sent l
+poly_count-later channel checkpoint later sent l = keys_later (poly_ends channel) packet_of (poly_key channel) checkpoint later sent l
 
 -- How the number of coded notes changes as commands are sent and the checkpoint grows.
 pub record PolyLimits : Type 0 where
-  pub one_more : (channel from : ℕ) (sent : List Sent) (last : Sent) → from ≤ last.packet → poly_count channel from (sent ++ last ∷ []) ≤ poly_count channel from sent + 1
-  pub other : (channel from : ℕ) (sent : List Sent) (last : Sent) → from ≤ last.packet → poly_key channel last ≡ None → poly_count channel from (sent ++ last ∷ []) ≤ poly_count channel from sent
-  pub met : (channel from note : ℕ) (sent : List Sent) (last : Sent) → from ≤ last.packet → poly_key channel last ≡ Some note → has_poly channel from note sent ≡ true → poly_count channel from (sent ++ last ∷ []) ≤ poly_count channel from sent
-  pub fewer : (channel from later : ℕ) (sent : List Sent) → from ≤ later → poly_count channel later sent ≤ poly_count channel from sent
+  pub one_more : (channel checkpoint : ℕ) (sent : List Sent) (last : Sent) → checkpoint ≤ last.packet → poly_count channel checkpoint (sent ++ last ∷ []) ≤ poly_count channel checkpoint sent + 1
+  pub other : (channel checkpoint : ℕ) (sent : List Sent) (last : Sent) → checkpoint ≤ last.packet → poly_key channel last ≡ None → poly_count channel checkpoint (sent ++ last ∷ []) ≤ poly_count channel checkpoint sent
+  pub met : (channel checkpoint note : ℕ) (sent : List Sent) (last : Sent) → checkpoint ≤ last.packet → poly_key channel last ≡ Some note → has_poly channel checkpoint note sent ≡ true → poly_count channel checkpoint (sent ++ last ∷ []) ≤ poly_count channel checkpoint sent
+  pub fewer : (channel checkpoint later : ℕ) (sent : List Sent) → checkpoint ≤ later → poly_count channel later sent ≤ poly_count channel checkpoint sent

@@ -1,10 +1,9 @@
 //! What a command means for the notes of one channel.
 
-ghost use Rattle.std.specs.Prelude.{◌≡◌, if◌then◌else◌};
-ghost use Rattle.std.specs.List.{list_any};
-ghost use Rattle.ch_notes.specs.declared.events.NoteEvent.TheVariants.{Other};
-ghost use Rattle.ch_notes.specs.NoteEvent.{note_event, IsWithin, event_ends, event_at, note_ends};
+ghost use Rattle.std.specs.Prelude.{◌≡◌};
+ghost use Rattle.ch_notes.specs.NoteEvent.{note_event, IsWithin, event_ends, note_ends};
 
+use jm_chapter::Items;
 use jm_cmds::{Channel, Command, D7, Sent};
 
 /// What a command means for the notes of one channel.
@@ -32,17 +31,13 @@ pub fn note_event(command: &Command, channel: Channel) -> NoteEvent
             note,
             velocity,
         } if *at == channel => {
+            let (note, velocity) = (*note, *velocity);
             let _note = note.get();
             if velocity.get() == 0 {
-                return NoteEvent::Released {
-                    note: *note,
-                    velocity: D7::low(64),
-                };
+                let velocity = D7::low(64);
+                return NoteEvent::Released { note, velocity };
             }
-            NoteEvent::Struck {
-                note: *note,
-                velocity: *velocity,
-            }
+            NoteEvent::Struck { note, velocity }
         }
         Command::NoteOff {
             channel: at,
@@ -80,23 +75,17 @@ fn event_ends(earlier: &NoteEvent, later: &NoteEvent) -> bool
     }
 }
 
-/// Whether one of the later places ends what this event left.
-fn is_ended(event: &NoteEvent, later: &[Sent], channel: Channel) -> bool
-    ensures { result ≡ list_any (λ after. event_ends event.now (event_at channel after)) later.now }
-{
-    later.iter().any(|after| event_ends(event, &note_event(&after.command, channel)))
+/// The notes of a channel, as items: the last command of each note that is N-active stands.
+#[derive(Clone, Copy)]
+pub(crate) struct Notes {
+    pub(crate) channel: Channel,
 }
 
-/// What stands of this place's event behind the later places: itself, or `Other` where one of them ends
-/// it.
-pub(crate) fn standing_event(place: &Sent, later: &[Sent], channel: Channel) -> NoteEvent
-    ensures event { result
-        ≡ (if list_any (note_ends channel place.now) later.now then Other else event_at channel place.now) }
-    ensures within { IsWithin result }
-{
-    let event = note_event(&place.command, channel);
-    if is_ended(&event, later, channel) {
-        return NoteEvent::Other;
+impl Items for Notes {
+    ghost ends = { λ s. note_ends s.channel };
+
+    fn is_ended(&self, place: &Sent, later: &Sent) -> bool {
+        let event = note_event(&place.command, self.channel);
+        event_ends(&event, &note_event(&later.command, self.channel))
     }
-    event
 }

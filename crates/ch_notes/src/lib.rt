@@ -8,7 +8,6 @@ pub mod a;
 pub mod e;
 mod events;
 pub mod laws;
-mod listed;
 pub mod n;
 mod presses;
 mod shape;

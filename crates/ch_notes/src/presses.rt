@@ -1,10 +1,9 @@
 //! What a command means for the pressures on the keys of one channel.
 
-ghost use Rattle.std.specs.Prelude.{◌≡◌, if◌then◌else◌};
-ghost use Rattle.std.specs.List.{list_any};
-ghost use Rattle.ch_notes.specs.declared.presses.PolyEvent.TheVariants.{Other};
-ghost use Rattle.ch_notes.specs.PolyEvent.{poly_event, IsWithin, pressed_note, poly_event_ends, poly_at, poly_ends};
+ghost use Rattle.std.specs.Prelude.{◌≡◌};
+ghost use Rattle.ch_notes.specs.PolyEvent.{poly_event, IsWithin, pressed_note, poly_event_ends, poly_ends};
 
+use jm_chapter::Items;
 use jm_cmds::{Channel, Command, D7, Sent};
 
 /// What a command means for the pressures on the keys of one channel.
@@ -69,23 +68,17 @@ fn poly_event_ends(earlier: &PolyEvent, later: &PolyEvent) -> bool
     }
 }
 
-/// Whether one of the later places ends what this event left.
-fn is_ended(event: &PolyEvent, later: &[Sent], channel: Channel) -> bool
-    ensures { result ≡ list_any (λ after. poly_event_ends event.now (poly_at channel after)) later.now }
-{
-    later.iter().any(|after| poly_event_ends(event, &poly_event(&after.command, channel)))
+/// The pressures on the keys of a channel, as items: the last one on each note that is C-active stands.
+#[derive(Clone, Copy)]
+pub(crate) struct Presses {
+    pub(crate) channel: Channel,
 }
 
-/// What stands of this place's event behind the later places: itself, or `Other` where one of them ends
-/// it.
-pub(crate) fn standing_press(place: &Sent, later: &[Sent], channel: Channel) -> PolyEvent
-    ensures event { result
-        ≡ (if list_any (poly_ends channel place.now) later.now then Other else poly_at channel place.now) }
-    ensures within { IsWithin result }
-{
-    let event = poly_event(&place.command, channel);
-    if is_ended(&event, later, channel) {
-        return PolyEvent::Other;
+impl Items for Presses {
+    ghost ends = { λ s. poly_ends s.channel };
+
+    fn is_ended(&self, place: &Sent, later: &Sent) -> bool {
+        let event = poly_event(&place.command, self.channel);
+        poly_event_ends(&event, &poly_event(&later.command, self.channel))
     }
-    event
 }

@@ -1,11 +1,11 @@
 //! What Chapter N's header and bits stand on.
 
-ghost use Rattle.std.specs.Prelude.{◌≡◌, ◌+◌, ◌≤◌, ◌<◌, ◌^◌, [], ◌∷◌, length};
-ghost use Rattle.jm_wire.specs.Heads.{FitsNote, note_octets};
+ghost use Rattle.std.specs.Prelude.{◌≡◌, ◌+◌, ◌≤◌, ◌<◌, ◌^◌, length};
+ghost use Rattle.jm_wire.specs.Heads.{FitsNote};
 ghost use Rattle.jm_wire.specs.Octets.{Appends};
 ghost use Rattle.ch_notes.specs.NoteEvent.{IsWithin};
 ghost use Rattle.ch_notes.specs.Count.{IsCount};
-ghost use Rattle.ch_notes.specs.Shape.{shape_step, no_notes, is_bare, shape_len, first_field, second_field, high_field, span, mark_bit, mark_octet, mark_octets};
+ghost use Rattle.ch_notes.specs.Shape.{shape_step, no_notes, is_bare, shape_len, shape_head, high_field, span, mark_bit, mark_octet, mark_octets};
 
 use crate::events::NoteEvent;
 use jm_wire::{NoteHead, Octets};
@@ -110,7 +110,7 @@ impl Shape {
     /// The chapter's header.
     pub(crate) fn head(&self) -> NoteHead
         requires { IsCount self.now }
-        ensures octets { note_octets result ≡ first_field self.now ∷ second_field self.now ∷ [] }
+        ensures head { result ≡ shape_head self.now }
         ensures fits { FitsNote result }
     {
         NoteHead {

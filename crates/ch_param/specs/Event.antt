@@ -13,7 +13,7 @@ use Rattle.jm_cmds.specs.Param.{same_param}
 use Rattle.jm_cmds.specs.Selection.{param_command, selection_after, selected_param}
 
 -- a half of the value of the parameter that is selected, if one is
-abbrev pub entry : Bool → ℕ → Option Param → ParamEvent
+abbrev pub entry : (high : Bool) (value : ℕ) → Option Param → ParamEvent
 entry high value (Some param) = Entry param high value
 entry high value None = Other
 
@@ -29,16 +29,16 @@ param_event s Pass = Other
 abbrev pub Place : Type 0
 Place = Selection × Sent
 
-abbrev pub selection_step : ℕ → Selection → Sent → Selection
+abbrev pub selection_step : (channel : ℕ) → Selection → Sent → Selection
 selection_step channel s sent = selection_after s (param_command channel sent.command)
 
-abbrev pub placed : ℕ → Selection → List Sent → List Place
+abbrev pub placed : (channel : ℕ) → Selection → List Sent → List Place
 placed channel s sent = scanned (selection_step channel) s sent
 
 abbrev pub packet_at : Place → ℕ
 packet_at place = place.1.packet
 
-abbrev pub event_at : ℕ → Place → ParamEvent
+abbrev pub event_at : (channel : ℕ) → Place → ParamEvent
 event_at channel place = param_event place.0 (param_command channel place.1.command)
 
 -- ## What ends what
@@ -50,7 +50,7 @@ takes_param param Cleared = true
 takes_param param Other = false
 
 -- whether it is of this half of the parameter, or clears all
-abbrev pub takes_half : Param → Bool → ParamEvent → Bool
+abbrev pub takes_half : Param → (high : Bool) → ParamEvent → Bool
 takes_half param high (Entry other half value) = same_param param other && beq high half
 takes_half param high Cleared = true
 takes_half param high Other = false
@@ -66,9 +66,9 @@ half_event_ends Cleared later = false
 half_event_ends Other later = false
 
 -- The latest entry of each parameter stands, where it is active.
-abbrev pub param_ends : ℕ → Place → Place → Bool
+abbrev pub param_ends : (channel : ℕ) → Place → Place → Bool
 param_ends channel place later = param_event_ends (event_at channel place) (event_at channel later)
 
 -- The latest entry of each half of each parameter stands, where it is active.
-abbrev pub half_ends : ℕ → Place → Place → Bool
+abbrev pub half_ends : (channel : ℕ) → Place → Place → Bool
 half_ends channel place later = half_event_ends (event_at channel place) (event_at channel later)

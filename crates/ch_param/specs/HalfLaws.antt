@@ -1,12 +1,13 @@
 -- The coded value of a half, by one fold over the places.
-use Rattle.std.proofs.Common.{◌≡◌, ℕ, Bool, true, false, cond, ◌&&◌, ◌||◌, leb, eqb, List, [], ◌∷◌, Option, Some, None, fold, refl, sym, ap, ◌∙◌, inl, inr}
+use Rattle.std.proofs.Common.{◌≡◌, ℕ, Bool, true, false, cond, ◌&&◌, ◌||◌, leb, List, [], ◌∷◌, Option, Some, None, fold, refl, sym, ap, ◌∙◌, inl, inr}
 use Rattle.std.proofs.Math.Bool.{beq}
 use Rattle.std.specs.List.{list_any}
-use Rattle.std.proofs.lemmas.Bool.{cases_Bool, and_parts, or_parts, eqb-true}
+use Rattle.std.proofs.lemmas.Bool.{cases_Bool, and_parts, or_parts}
 use Rattle.jm_cmds.specs.declared.param.Param.{Param}
 use Rattle.ch_param.specs.declared.events.ParamEvent.{ParamEvent}
 use Rattle.ch_param.specs.declared.events.ParamEvent.TheVariants.{Entry, Cleared, Other}
 use Rattle.jm_cmds.specs.Param.{same_param}
+use Rattle.jm_cmds.specs.ParamLaws.{beq-true, same_param-equal}
 use Rattle.ch_param.specs.Event.{Place, packet_at, event_at, takes_half, half_ends, half_event_ends}
 use Rattle.ch_param.specs.ChapterM.{is_half, event_value, coded_half}
 
@@ -17,35 +18,13 @@ half_step param high half is_coded (Entry other other_high value) =
 half_step param high half is_coded Cleared = None
 half_step param high half is_coded Other = half
 
--- a parameter with this kind and number
-numbered : Bool → ℕ → ℕ → Param
-numbered nrpn high low = record { nrpn = nrpn; high = high; low = low }
-
-abbrev pub place_step : ℕ → ℕ → Param → Bool → Option ℕ → Place → Option ℕ
-place_step channel from param high half place = half_step param high half (leb from (packet_at place)) (event_at channel place)
-
--- ## The same parameter
-
-beq-true : (a b : Bool) → beq a b ≡ true → a ≡ b
-beq-true true true e = refl
-beq-true true false e = cc
-beq-true false true e = cc
-beq-true false false e = refl
-
-same_parts : (m n : Bool) (h i j k : ℕ) → m ≡ n → h ≡ i → j ≡ k → numbered m h j ≡ numbered n i k
-same_parts m n h i j k p q r = cc
-
-pub same_param-equal : (a b : Param) → same_param a b ≡ true → a ≡ b
-unfolding numbered
-same_param-equal a b e =
-    let parts = and_parts (beq a.nrpn b.nrpn && eqb a.high b.high) (eqb a.low b.low) e in
-    let front = and_parts (beq a.nrpn b.nrpn) (eqb a.high b.high) parts.0 in
-    same_parts a.nrpn b.nrpn a.high b.high a.low b.low (beq-true a.nrpn b.nrpn front.0) (eqb-true a.high b.high front.1) (eqb-true a.low b.low parts.1)
+abbrev pub place_step : (channel checkpoint : ℕ) → Param → Bool → Option ℕ → Place → Option ℕ
+place_step channel checkpoint param high half place = half_step param high half (leb checkpoint (packet_at place)) (event_at channel place)
 
 -- ## What is coded of a half
 
 -- whether one of these places is of the half, or clears all
-is_taken : ℕ → Param → Bool → List Place → Bool
+is_taken : (channel : ℕ) → Param → (high : Bool) → List Place → Bool
 is_taken channel param high places = list_any (λ place. takes_half param high (event_at channel place)) places
 
 -- what is coded with one place more before those of which `later` is coded
@@ -53,14 +32,14 @@ among_one : Param → Bool → ParamEvent → Bool → Bool → Option ℕ → O
 among_one param high event ended is_coded later =
     cond ended later (cond is_coded (cond (is_half param high event) (event_value event) later) later)
 
-among_more : (channel from : ℕ) (param : Param) (high : Bool) (x : Place) (xs : List Place) →
-    coded_half channel from (x ∷ xs) param high
-    ≡ among_one param high (event_at channel x) (list_any (half_ends channel x) xs) (leb from (packet_at x)) (coded_half channel from xs param high)
+among_more : (channel checkpoint : ℕ) (param : Param) (high : Bool) (x : Place) (xs : List Place) →
+    coded_half channel checkpoint (x ∷ xs) param high
+    ≡ among_one param high (event_at channel x) (list_any (half_ends channel x) xs) (leb checkpoint (packet_at x)) (coded_half channel checkpoint xs param high)
 unfolding among_one
-among_more channel from param high x xs =
+among_more channel checkpoint param high x xs =
     elim (cases_Bool (list_any (half_ends channel x) xs)) [
       | inl t ↦ rw t refl
-      | inr n ↦ elim (cases_Bool (leb from (packet_at x))) [ inl l ↦ rw (n, l) refl | inr o ↦ rw (n, o) refl ]
+      | inr n ↦ elim (cases_Bool (leb checkpoint (packet_at x))) [ inl l ↦ rw (n, l) refl | inr o ↦ rw (n, o) refl ]
     ]
 
 -- an event of another half leaves what is coded
@@ -76,14 +55,14 @@ half_takes param high Cleared e = refl
 half_takes param high Other e = refl
 
 -- where no place is of the half, nothing is
-none_among : (channel from : ℕ) (param : Param) (high : Bool) (places : List Place) → is_taken channel param high places ≡ false → coded_half channel from places param high ≡ None
+none_among : (channel checkpoint : ℕ) (param : Param) (high : Bool) (places : List Place) → is_taken channel param high places ≡ false → coded_half channel checkpoint places param high ≡ None
 unfolding is_taken
-none_among channel from param high [] e = refl
-none_among channel from param high (x ∷ xs) e =
+none_among channel checkpoint param high [] e = refl
+none_among channel checkpoint param high (x ∷ xs) e =
     let parts = or_parts (takes_half param high (event_at channel x)) (list_any (λ place. takes_half param high (event_at channel place)) xs) e in
-    among_more channel from param high x xs
-    ∙ among_other param high (event_at channel x) (list_any (half_ends channel x) xs) (leb from (packet_at x)) (coded_half channel from xs param high) (half_takes param high (event_at channel x) parts.0)
-    ∙ none_among channel from param high xs parts.1
+    among_more channel checkpoint param high x xs
+    ∙ among_other param high (event_at channel x) (list_any (half_ends channel x) xs) (leb checkpoint (packet_at x)) (coded_half channel checkpoint xs param high) (half_takes param high (event_at channel x) parts.0)
+    ∙ none_among channel checkpoint param high xs parts.1
 
 -- an event of the half itself
 among_this : (channel : ℕ) (param : Param) (high : Bool) (value : ℕ) (is_coded : Bool) (later : Option ℕ) (xs : List Place) → same_param param param ≡ true → beq high high ≡ true →
@@ -127,20 +106,20 @@ step channel param high acc is_coded later Other xs none =
     ap (λ (o : Option ℕ). cond (is_taken channel param high xs) o acc) (sym (among_other param high Other (list_any (λ place. half_event_ends Other (event_at channel place)) xs) is_coded later refl))
 
 -- a fold over the places gives what is coded behind them all
-fold-half : (channel from : ℕ) (param : Param) (high : Bool) (acc : Option ℕ) (places : List Place) →
-    fold (place_step channel from param high) acc places ≡ cond (is_taken channel param high places) (coded_half channel from places param high) acc
+fold-half : (channel checkpoint : ℕ) (param : Param) (high : Bool) (acc : Option ℕ) (places : List Place) →
+    fold (place_step channel checkpoint param high) acc places ≡ cond (is_taken channel param high places) (coded_half channel checkpoint places param high) acc
 unfolding is_taken
-fold-half channel from param high acc [] = refl
-fold-half channel from param high acc (x ∷ xs) =
-    let later = coded_half channel from xs param high in
-    fold-half channel from param high (place_step channel from param high acc x) xs
-    ∙ step channel param high acc (leb from (packet_at x)) later (event_at channel x) xs (none_among channel from param high xs)
-    ∙ ap (λ (o : Option ℕ). cond (is_taken channel param high (x ∷ xs)) o acc) (sym (among_more channel from param high x xs))
+fold-half channel checkpoint param high acc [] = refl
+fold-half channel checkpoint param high acc (x ∷ xs) =
+    let later = coded_half channel checkpoint xs param high in
+    fold-half channel checkpoint param high (place_step channel checkpoint param high acc x) xs
+    ∙ step channel param high acc (leb checkpoint (packet_at x)) later (event_at channel x) xs (none_among channel checkpoint param high xs)
+    ∙ ap (λ (o : Option ℕ). cond (is_taken channel param high (x ∷ xs)) o acc) (sym (among_more channel checkpoint param high x xs))
 
-pub coded_half-fold : (channel from : ℕ) (param : Param) (high : Bool) (places : List Place) →
-    fold (place_step channel from param high) None places ≡ coded_half channel from places param high
-coded_half-fold channel from param high places =
+pub coded_half-fold : (channel checkpoint : ℕ) (param : Param) (high : Bool) (places : List Place) →
+    fold (place_step channel checkpoint param high) None places ≡ coded_half channel checkpoint places param high
+coded_half-fold channel checkpoint param high places =
     elim (cases_Bool (is_taken channel param high places)) [
-      | inl t ↦ rw (fold-half channel from param high None places, t) refl
-      | inr f ↦ rw (fold-half channel from param high None places, f) (sym (none_among channel from param high places f))
+      | inl t ↦ rw (fold-half channel checkpoint param high None places, t) refl
+      | inr f ↦ rw (fold-half channel checkpoint param high None places, f) (sym (none_among channel checkpoint param high places f))
     ]

@@ -9,6 +9,6 @@ use Rattle.ch_param.specs.ChapterM.{entered, entered_at, session_places}
 
 -- A parameter has a log exactly where one of its halves is coded, at the later of the coded ones.
 abbrev pub LogsAtLaterHalves : Type 0
-LogsAtLaterHalves = (channel from : ℕ) (sent : List Sent) → InOrder packet_of sent →
+LogsAtLaterHalves = (channel checkpoint : ℕ) (sent : List Sent) → InOrder packet_of sent →
     let places = session_places channel sent in
-    entered channel from places ≡ filter_map (entered_at channel) (standing (param_ends channel) (coded (half_ends channel) packet_at from places))
+    entered channel checkpoint places ≡ filter_map (entered_at channel) (standing (param_ends channel) (coded (half_ends channel) packet_at checkpoint places))

@@ -1,19 +1,16 @@
 -- The latest entry of a parameter is the later of its coded halves.
-use Rattle.std.proofs.Common.{◌≡◌, ℕ, ◌≤◌, true, List, [], ◌∷◌, refl, sym, ap, ◌∙◌}
+use Rattle.std.proofs.Common.{◌≡◌, ℕ, true, List, [], refl, sym, ap, ◌∙◌}
 use Rattle.std.proofs.Math.Bool.{beq}
-use Rattle.std.specs.List.{filter_map, AllByRecursion}
+use Rattle.std.specs.List.{filter_map}
 use Rattle.std.proofs.lemmas.Bool.{and_parts}
-use Rattle.jm_cmds.specs.declared.history.Sent.{Sent}
-use Rattle.jm_cmds.specs.History.{InOrder, standing, since, coded, scanned}
+use Rattle.jm_cmds.specs.History.{InOrder, standing, since, coded}
 use Rattle.jm_cmds.specs.HistoryLaws.{InOrder-standing, since-standing, standing-standing}
-use Rattle.jm_cmds.specs.Sent.{packet_of}
-use Rattle.jm_cmds.specs.declared.selection.Selection.{Selection}
 use Rattle.ch_param.specs.declared.events.ParamEvent.{ParamEvent}
 use Rattle.ch_param.specs.declared.events.ParamEvent.TheVariants.{Entry, Cleared, Other}
 use Rattle.jm_cmds.specs.Param.{same_param}
-use Rattle.ch_param.specs.Event.{Place, placed, selection_step, packet_at, event_at, param_event_ends, half_event_ends, param_ends, half_ends}
+use Rattle.ch_param.specs.Event.{Place, packet_at, event_at, param_event_ends, half_event_ends, param_ends, half_ends}
 use Rattle.ch_param.specs.ChapterM.{entered, entered_at}
-use Rattle.ch_param.specs.HalfLaws.{same_param-equal}
+use Rattle.jm_cmds.specs.ParamLaws.{same_param-equal}
 
 -- ## Halves and parameters
 
@@ -35,20 +32,11 @@ half_on Other y z h e = h
 
 -- ## In order
 
-All-scanned : (step : Selection → Sent → Selection) (P : Sent → Type 0) (s : Selection) (sent : List Sent) → AllByRecursion P sent → AllByRecursion (λ (place : Place). P place.1) (scanned step s sent)
-All-scanned step P s [] h = tt
-All-scanned step P s (x ∷ xs) h = (h.0, All-scanned step P (step s x) xs h.1)
-
-pub InOrder-placed : (channel : ℕ) (s : Selection) (sent : List Sent) → InOrder packet_of sent → InOrder packet_at (placed channel s sent)
-InOrder-placed channel s [] h = tt
-InOrder-placed channel s (x ∷ xs) h =
-    (All-scanned (selection_step channel) (λ (y : Sent). x.packet ≤ y.packet) (selection_step channel s x) xs h.0, InOrder-placed channel (selection_step channel s x) xs h.1)
-
-pub entered-halves : (channel from : ℕ) (places : List Place) → InOrder packet_at places →
-    entered channel from places ≡ filter_map (entered_at channel) (standing (param_ends channel) (coded (half_ends channel) packet_at from places))
-entered-halves channel from places o =
+pub entered-halves : (channel checkpoint : ℕ) (places : List Place) → InOrder packet_at places →
+    entered channel checkpoint places ≡ filter_map (entered_at channel) (standing (param_ends channel) (coded (half_ends channel) packet_at checkpoint places))
+entered-halves channel checkpoint places o =
     let halves = standing (half_ends channel) places in
     let same = standing-standing (half_ends channel) (param_ends channel)
     (λ x y h. half_weaker (event_at channel x) (event_at channel y) h) (λ x y z h e. half_on (event_at channel x) (event_at channel y) (event_at channel z) h e) places in
-    ap (λ (k : List Place). filter_map (entered_at channel) (since packet_at from k)) (sym same)
-    ∙ ap (filter_map (entered_at channel)) (since-standing (param_ends channel) packet_at from halves (InOrder-standing packet_at (half_ends channel) places o))
+    ap (λ (k : List Place). filter_map (entered_at channel) (since packet_at checkpoint k)) (sym same)
+    ∙ ap (filter_map (entered_at channel)) (since-standing (param_ends channel) packet_at checkpoint halves (InOrder-standing packet_at (half_ends channel) places o))

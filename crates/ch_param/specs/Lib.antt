@@ -8,3 +8,6 @@ pub mod FreshLaws
 pub mod Later
 pub mod LaterLaws
 pub mod Limits
+pub mod Fits
+pub mod InOrder
+pub mod OrderLaws

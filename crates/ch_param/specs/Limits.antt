@@ -23,7 +23,7 @@ use Rattle.jm_cmds.specs.Param.{same_param}
 use Rattle.jm_cmds.specs.Selection.{no_selection, param_command, control_command, selected_param, is_data_entry}
 use Rattle.ch_param.specs.Event.{Place, selection_step, packet_at, event_at, param_event, param_event_ends, param_ends}
 use Rattle.ch_param.specs.ChapterM.{Entered, entered, entered_at, entered_by, event_param, session_places, param_logs, fresh_among, chapter_of, chapter_m, param_count, has_param, param_parts, selected}
-use Rattle.ch_param.specs.HalfLaws.{same_param-equal}
+use Rattle.jm_cmds.specs.ParamLaws.{same_param-equal}
 use Rattle.ch_param.specs.LogLaws.{logs_short}
 
 -- ## Lists of which some items are kept
@@ -68,32 +68,32 @@ filter_drops f test p drops (x ∷ xs) h = one (f x) refl h (filter_drops f test
 -- ## One place more
 
 -- the places that are coded, and that this one leaves
-left : ℕ → ℕ → List Place → Place → List Place
-left channel from places place = filter (λ x. not (param_ends channel x place)) (coded (param_ends channel) packet_at from places)
+left : (channel checkpoint : ℕ) → List Place → Place → List Place
+left channel checkpoint places place = filter (λ x. not (param_ends channel x place)) (coded (param_ends channel) packet_at checkpoint places)
 
-entered-push : (channel from : ℕ) (places : List Place) (place : Place) → from ≤ packet_at place →
-    length (entered channel from (places ++ place ∷ [])) ≡ length (filter_map (entered_at channel) (left channel from places place)) + length (cons_option (entered_at channel place) [])
+entered-push : (channel checkpoint : ℕ) (places : List Place) (place : Place) → checkpoint ≤ packet_at place →
+    length (entered channel checkpoint (places ++ place ∷ [])) ≡ length (filter_map (entered_at channel) (left channel checkpoint places place)) + length (cons_option (entered_at channel place) [])
 unfolding left
-entered-push channel from places place l =
-    ap (λ (k : List Place). length (filter_map (entered_at channel) k)) (coded-push (param_ends channel) packet_at from places place l)
-    ∙ ap length (filter_map-append (entered_at channel) (left channel from places place) (place ∷ []))
-    ∙ length-append (filter_map (entered_at channel) (left channel from places place)) (cons_option (entered_at channel place) [])
+entered-push channel checkpoint places place l =
+    ap (λ (k : List Place). length (filter_map (entered_at channel) k)) (coded-push (param_ends channel) packet_at checkpoint places place l)
+    ∙ ap length (filter_map-append (entered_at channel) (left channel checkpoint places place) (place ∷ []))
+    ∙ length-append (filter_map (entered_at channel) (left channel checkpoint places place)) (cons_option (entered_at channel place) [])
 
-left_shorter : (channel from : ℕ) (places : List Place) (place : Place) → length (filter_map (entered_at channel) (left channel from places place)) ≤ length (entered channel from places)
+left_shorter : (channel checkpoint : ℕ) (places : List Place) (place : Place) → length (filter_map (entered_at channel) (left channel checkpoint places place)) ≤ length (entered channel checkpoint places)
 unfolding left
-left_shorter channel from places place =
-    filter_shorter (entered_at channel) (λ x. not (param_ends channel x place)) (coded (param_ends channel) packet_at from places)
+left_shorter channel checkpoint places place =
+    filter_shorter (entered_at channel) (λ x. not (param_ends channel x place)) (coded (param_ends channel) packet_at checkpoint places)
 
 at_most_one : {Y : Type 0} (o : Option Y) → length (cons_option o []) ≤ 1
 at_most_one None = omega arith
 at_most_one (Some y) = omega arith
 
 -- one that enters nothing makes them no more
-push-none : (channel from : ℕ) (places : List Place) (place : Place) → from ≤ packet_at place → event_param (event_at channel place) ≡ None →
-    length (entered channel from (places ++ place ∷ [])) ≤ length (entered channel from places)
-push-none channel from places place l e =
+push-none : (channel checkpoint : ℕ) (places : List Place) (place : Place) → checkpoint ≤ packet_at place → event_param (event_at channel place) ≡ None →
+    length (entered channel checkpoint (places ++ place ∷ [])) ≤ length (entered channel checkpoint places)
+push-none channel checkpoint places place l e =
     let none : length (cons_option (entered_at channel place) []) ≡ 0 = ap (λ (o : Option Param). length (cons_option (entered_by place.1 o) [])) e in
-    omega (arith, entered-push channel from places place l, left_shorter channel from places place, none)
+    omega (arith, entered-push channel checkpoint places place l, left_shorter channel checkpoint places place, none)
 
 same_turned : (a b : Param) → same_param a b ≡ true → same_param b a ≡ true
 same_turned a b t = let p = same_param-equal a b t in rw (← p) (rw (← p) at t)
@@ -110,36 +110,36 @@ drops_event param Cleared later sent e l h t = cc
 drops_event param Other later sent e l h t = cc
 
 -- nor does one that enters a parameter that is coded
-push-met : (channel from : ℕ) (places : List Place) (place : Place) (param : Param) → from ≤ packet_at place → event_param (event_at channel place) ≡ Some param →
-    list_any (λ (e : Entered). same_param param e.param) (entered channel from places) ≡ true →
-    length (entered channel from (places ++ place ∷ [])) ≤ length (entered channel from places)
+push-met : (channel checkpoint : ℕ) (places : List Place) (place : Place) (param : Param) → checkpoint ≤ packet_at place → event_param (event_at channel place) ≡ Some param →
+    list_any (λ (e : Entered). same_param param e.param) (entered channel checkpoint places) ≡ true →
+    length (entered channel checkpoint (places ++ place ∷ [])) ≤ length (entered channel checkpoint places)
 unfolding left
-push-met channel from places place param l e h =
+push-met channel checkpoint places place param l e h =
     let less = filter_drops (entered_at channel) (λ (k : Entered). same_param param k.param) (λ x. not (param_ends channel x place))
-    (λ x k f t. ap not (drops_event param (event_at channel x) (event_at channel place) x.1 k e f t)) (coded (param_ends channel) packet_at from places) h in
-    omega (arith, entered-push channel from places place l, less, at_most_one (entered_at channel place))
+    (λ x k f t. ap not (drops_event param (event_at channel x) (event_at channel place) x.1 k e f t)) (coded (param_ends channel) packet_at checkpoint places) h in
+    omega (arith, entered-push channel checkpoint places place l, less, at_most_one (entered_at channel place))
 
 -- ## One command more
 
 -- the place of a command that is sent behind all others
-last_place : ℕ → List Sent → Sent → Place
+last_place : (channel : ℕ) → List Sent → Sent → Place
 last_place channel sent x = (fold (selection_step channel) no_selection sent, x)
 
 session-push : (channel : ℕ) (sent : List Sent) (x : Sent) → session_places channel (sent ++ x ∷ []) ≡ session_places channel sent ++ last_place channel sent x ∷ []
 unfolding last_place
 session-push channel sent x = scanned-push (selection_step channel) no_selection sent x
 
-count-push : (channel from : ℕ) (sent : List Sent) (x : Sent) → param_count channel from (sent ++ x ∷ []) ≡ length (entered channel from (session_places channel sent ++ last_place channel sent x ∷ []))
+count-push : (channel checkpoint : ℕ) (sent : List Sent) (x : Sent) → param_count channel checkpoint (sent ++ x ∷ []) ≡ length (entered channel checkpoint (session_places channel sent ++ last_place channel sent x ∷ []))
 unfolding param_count
-count-push channel from sent x = ap (λ (k : List Place). length (entered channel from k)) (session-push channel sent x)
+count-push channel checkpoint sent x = ap (λ (k : List Place). length (entered channel checkpoint k)) (session-push channel sent x)
 
 -- One more command makes the coded parameters at most one more.
-pub param_count-push : (channel from : ℕ) (sent : List Sent) (x : Sent) → from ≤ x.packet → param_count channel from (sent ++ x ∷ []) ≤ param_count channel from sent + 1
+pub param_count-push : (channel checkpoint : ℕ) (sent : List Sent) (x : Sent) → checkpoint ≤ x.packet → param_count channel checkpoint (sent ++ x ∷ []) ≤ param_count channel checkpoint sent + 1
 unfolding param_count last_place
-param_count-push channel from sent x l =
+param_count-push channel checkpoint sent x l =
     let places = session_places channel sent in
     let place = last_place channel sent x in
-    omega (arith, count-push channel from sent x, entered-push channel from places place l, left_shorter channel from places place, at_most_one (entered_at channel place))
+    omega (arith, count-push channel checkpoint sent x, entered-push channel checkpoint places place l, left_shorter channel checkpoint places place, at_most_one (entered_at channel place))
 
 no_entry : (s : Selection) (kind : ControlKind) (number value : ℕ) → control_number kind ≡ number → is_entry number ≡ false → event_param (param_event s (control_command kind value)) ≡ None
 unfolding is_entry
@@ -159,16 +159,16 @@ no_data_entry channel s (Control at number value) n =
     ]
 no_data_entry channel s command n = no_control s (is_reset command)
 
-count-none : (channel from : ℕ) (sent : List Sent) (x : Sent) → from ≤ x.packet → event_param (event_at channel (last_place channel sent x)) ≡ None → param_count channel from (sent ++ x ∷ []) ≤ param_count channel from sent
+count-none : (channel checkpoint : ℕ) (sent : List Sent) (x : Sent) → checkpoint ≤ x.packet → event_param (event_at channel (last_place channel sent x)) ≡ None → param_count channel checkpoint (sent ++ x ∷ []) ≤ param_count channel checkpoint sent
 unfolding param_count last_place
-count-none channel from sent x l e =
-    omega (arith, count-push channel from sent x, push-none channel from (session_places channel sent) (last_place channel sent x) l e)
+count-none channel checkpoint sent x l e =
+    omega (arith, count-push channel checkpoint sent x, push-none channel checkpoint (session_places channel sent) (last_place channel sent x) l e)
 
 -- One that isn't Control 6 or 38 of the channel makes them no more.
-pub param_count-other : (channel from : ℕ) (sent : List Sent) (x : Sent) → from ≤ x.packet → is_data_entry channel x.command ≡ false → param_count channel from (sent ++ x ∷ []) ≤ param_count channel from sent
+pub param_count-other : (channel checkpoint : ℕ) (sent : List Sent) (x : Sent) → checkpoint ≤ x.packet → is_data_entry channel x.command ≡ false → param_count channel checkpoint (sent ++ x ∷ []) ≤ param_count channel checkpoint sent
 unfolding last_place
-param_count-other channel from sent x l n =
-    count-none channel from sent x l (no_data_entry channel (fold (selection_step channel) no_selection sent) x.command n)
+param_count-other channel checkpoint sent x l n =
+    count-none channel checkpoint sent x l (no_data_entry channel (fold (selection_step channel) no_selection sent) x.command n)
 
 no_parts : (o : Option Param) → param_parts o ≡ None → o ≡ None
 no_parts None e = refl
@@ -179,11 +179,11 @@ unselected s (Enter high value) e = rw e refl
 unselected s command e = refl
 
 -- Nor does one where no parameter is selected.
-pub param_count-unselected : (channel from : ℕ) (sent : List Sent) (x : Sent) → from ≤ x.packet → selected channel sent ≡ None → param_count channel from (sent ++ x ∷ []) ≤ param_count channel from sent
+pub param_count-unselected : (channel checkpoint : ℕ) (sent : List Sent) (x : Sent) → checkpoint ≤ x.packet → selected channel sent ≡ None → param_count channel checkpoint (sent ++ x ∷ []) ≤ param_count channel checkpoint sent
 unfolding last_place selected
-param_count-unselected channel from sent x l n =
+param_count-unselected channel checkpoint sent x l n =
     let s = fold (selection_step channel) no_selection sent in
-    count-none channel from sent x l (unselected s (param_command channel x.command) (no_parts (selected_param s) n))
+    count-none channel checkpoint sent x l (unselected s (param_command channel x.command) (no_parts (selected_param s) n))
 
 its_parts : (o : Option Param) (nrpn : Bool) (high low : ℕ) → param_parts o ≡ Some (nrpn, high, low) → o ≡ Some (record { nrpn = nrpn; high = high; low = low })
 its_parts None nrpn high low e = cc
@@ -196,40 +196,58 @@ enters_selected s (Enter high value) param e = inr (rw e refl)
 enters_selected s command param e = inl refl
 
 -- Nor does one where the selected parameter is coded.
-pub param_count-met : (channel from : ℕ) (sent : List Sent) (x : Sent) (nrpn : Bool) (high low : ℕ) → from ≤ x.packet → selected channel sent ≡ Some (nrpn, high, low) → has_param channel from nrpn high low sent ≡ true →
-    param_count channel from (sent ++ x ∷ []) ≤ param_count channel from sent
+pub param_count-met : (channel checkpoint : ℕ) (sent : List Sent) (x : Sent) (nrpn : Bool) (high low : ℕ) → checkpoint ≤ x.packet → selected channel sent ≡ Some (nrpn, high, low) → has_param channel checkpoint nrpn high low sent ≡ true →
+    param_count channel checkpoint (sent ++ x ∷ []) ≤ param_count channel checkpoint sent
 unfolding param_count last_place selected has_param
-param_count-met channel from sent x nrpn high low l s h =
+param_count-met channel checkpoint sent x nrpn high low l s h =
     let before = fold (selection_step channel) no_selection sent in
     let param : Param = record { nrpn = nrpn; high = high; low = low } in
     let place = last_place channel sent x in
     elim (enters_selected before (param_command channel x.command) param (its_parts (selected_param before) nrpn high low s)) [
-      | inl none ↦ count-none channel from sent x l none
-      | inr some ↦ omega (arith, count-push channel from sent x, push-met channel from (session_places channel sent) place param l some h)
+      | inl none ↦ count-none channel checkpoint sent x l none
+      | inr some ↦ omega (arith, count-push channel checkpoint sent x, push-met channel checkpoint (session_places channel sent) place param l some h)
     ]
 
 -- A later checkpoint makes them no more.
-pub param_count-later : (channel from later : ℕ) (sent : List Sent) → from ≤ later → param_count channel later sent ≤ param_count channel from sent
+pub param_count-later : (channel checkpoint later : ℕ) (sent : List Sent) → checkpoint ≤ later → param_count channel later sent ≤ param_count channel checkpoint sent
 unfolding param_count
-param_count-later channel from later sent l =
+param_count-later channel checkpoint later sent l =
     let places = session_places channel sent in
-    let less = filter_shorter (entered_at channel) (λ x. leb later (packet_at x)) (coded (param_ends channel) packet_at from places) in
-    rw (coded-later (param_ends channel) packet_at from later places l) at less
+    let less = filter_shorter (entered_at channel) (λ x. leb later (packet_at x)) (coded (param_ends channel) packet_at checkpoint places) in
+    rw (coded-later (param_ends channel) packet_at checkpoint later places l) at less
 
-pub param_count-none : (channel from : ℕ) → param_count channel from [] ≡ 0
+pub param_count-none : (channel checkpoint : ℕ) → param_count channel checkpoint [] ≡ 0
 unfolding param_count
-param_count-none channel from = refl
+param_count-none channel checkpoint = refl
+
+-- How the number of coded parameters changes as commands are sent and the checkpoint grows.
+pub record ParamLimits : Type 0 where
+  -- One more command makes them at most one more.
+  pub one_more : (channel checkpoint : ℕ) (sent : List Sent) (last : Sent) → checkpoint ≤ last.packet → param_count channel checkpoint (sent ++ last ∷ []) ≤ param_count channel checkpoint sent + 1
+  -- One that is no Control 6 or 38 of the channel makes them no more.
+  pub other : (channel checkpoint : ℕ) (sent : List Sent) (last : Sent) → checkpoint ≤ last.packet → is_data_entry channel last.command ≡ false
+      → param_count channel checkpoint (sent ++ last ∷ []) ≤ param_count channel checkpoint sent
+  -- Nor does one where no parameter is selected.
+  pub unselected : (channel checkpoint : ℕ) (sent : List Sent) (last : Sent) → checkpoint ≤ last.packet → selected channel sent ≡ None
+      → param_count channel checkpoint (sent ++ last ∷ []) ≤ param_count channel checkpoint sent
+  -- Nor does one where the selected parameter is coded.
+  pub met : (channel checkpoint : ℕ) (sent : List Sent) (last : Sent) (nrpn : Bool) (high low : ℕ) → checkpoint ≤ last.packet → selected channel sent ≡ Some (nrpn, high, low)
+      → has_param channel checkpoint nrpn high low sent ≡ true → param_count channel checkpoint (sent ++ last ∷ []) ≤ param_count channel checkpoint sent
+  -- A later checkpoint makes them no more.
+  pub fewer : (channel checkpoint later : ℕ) (sent : List Sent) → checkpoint ≤ later → param_count channel later sent ≤ param_count channel checkpoint sent
+  -- No command, no parameter.
+  pub none : (channel checkpoint : ℕ) → param_count channel checkpoint [] ≡ 0
 
 -- ## The chapter's length
 
 -- two octets of the header, and five of each log
-pub length-chapter_m-le : (channel from packet : ℕ) (sent : List Sent) → param_count channel from (below packet_of packet sent) ≤ 16 → length (chapter_m channel from packet sent) ≤ 82
+pub length-chapter_m-le : (channel checkpoint packet : ℕ) (sent : List Sent) → param_count channel checkpoint (below packet_of packet sent) ≤ 16 → length (chapter_m channel checkpoint packet sent) ≤ 82
 unfolding param_count chapter_m
-length-chapter_m-le channel from packet sent few =
+length-chapter_m-le channel checkpoint packet sent few =
     let places = session_places channel (below packet_of packet sent) in
-    let params = entered channel from places in
-    let short = logs_short channel from packet places params in
-    short_chapter (fresh_among packet params) (param_logs channel from packet places) (omega (arith, short, few))
+    let params = entered channel checkpoint places in
+    let short = logs_short channel checkpoint packet places params in
+    short_chapter (fresh_among packet params) (param_logs channel checkpoint packet places) (omega (arith, short, few))
   where
     short_chapter : (fresh : Bool) (logs : List ℕ) → length logs ≤ 80 → length (chapter_of fresh logs) ≤ 82
     short_chapter fresh logs l = elim (cases_Bool (eqb (length logs) 0)) [ inl t ↦ rw t (omega arith) | inr f ↦ rw f (omega (arith, l)) ]

@@ -17,12 +17,12 @@ param_log_short s param high low =
     omega (arith, both, option_short high, option_short low)
 
 -- a log has at most five octets
-pub logs_short : (channel from packet : ℕ) (places : List Place) (params : List Entered) → length (flat_map (entered_log channel from packet places) params) ≤ 5 * length params
-logs_short channel from packet places [] = omega arith
-logs_short channel from packet places (e ∷ es) =
-    let all = length-append (entered_log channel from packet places e) (flat_map (entered_log channel from packet places) es) in
-    let one = param_log_short (s_bit packet e.latest) e.param (coded_half channel from places e.param true) (coded_half channel from places e.param false) in
-    omega (arith, all, one, logs_short channel from packet places es)
+pub logs_short : (channel checkpoint packet : ℕ) (places : List Place) (params : List Entered) → length (flat_map (entered_log channel checkpoint packet places) params) ≤ 5 * length params
+logs_short channel checkpoint packet places [] = omega arith
+logs_short channel checkpoint packet places (e ∷ es) =
+    let all = length-append (entered_log channel checkpoint packet places e) (flat_map (entered_log channel checkpoint packet places) es) in
+    let one = param_log_short (s_bit packet e.latest) e.param (coded_half channel checkpoint places e.param true) (coded_half channel checkpoint places e.param false) in
+    omega (arith, all, one, logs_short channel checkpoint packet places es)
 
 pub same_log : (s : ℕ) (a b : Param) (high low h l : Option ℕ) → a ≡ b → high ≡ h → low ≡ l → param_log s a high low ≡ param_log s b h l
 same_log s a b high low h l p q r = rw (p, q, r) refl

@@ -39,18 +39,18 @@ fn half_behind(
 pub(crate) fn coded_half(
     history: &[Sent],
     channel: Channel,
-    from: u64,
+    checkpoint: u64,
     param: &Param,
     high: bool,
 ) -> Option<D7>
-    ensures { result ≡ coded_half channel from (session_places channel history.now) param.now high }
+    ensures { result ≡ coded_half channel checkpoint (session_places channel history.now) param.now high }
 {
     let mut half = None;
     let mut selection = Selection::none();
     let mut rest = history;
     while let Some((place, later)) = first_place(rest) {
         let event = event_at(&selection, place, channel);
-        half = half_behind(half, event, param, high, place.packet >= from);
+        half = half_behind(half, event, param, high, place.packet >= checkpoint);
         selection = selection_behind(&selection, place, channel);
         rest = later;
     }

@@ -21,15 +21,15 @@ struct Log {
 
 impl Log {
     /// The log of this parameter in a session of these places.
-    fn of(history: &[Sent], channel: Channel, from: u64, param: Param) -> Log
+    fn of(history: &[Sent], channel: Channel, checkpoint: u64, param: Param) -> Log
         ensures param { result.param ≡ param }
-        ensures high { result.high ≡ coded_half channel from (session_places channel history.now) param true }
-        ensures low { result.low ≡ coded_half channel from (session_places channel history.now) param false }
+        ensures high { result.high ≡ coded_half channel checkpoint (session_places channel history.now) param true }
+        ensures low { result.low ≡ coded_half channel checkpoint (session_places channel history.now) param false }
     {
         Log {
             param,
-            high: coded_half(history, channel, from, &param, true),
-            low: coded_half(history, channel, from, &param, false),
+            high: coded_half(history, channel, checkpoint, &param, true),
+            low: coded_half(history, channel, checkpoint, &param, false),
         }
     }
 
@@ -84,13 +84,13 @@ fn write_half(half: Option<D7>, out: &mut Octets)
 }
 
 /// How many parameters are coded.
-pub(crate) fn count(history: &[Sent], channel: Channel, from: u64) -> usize
-    ensures { result ≡ length (entered channel from (session_places channel history.now)) }
+pub(crate) fn count(history: &[Sent], channel: Channel, checkpoint: u64) -> usize
+    ensures { result ≡ length (entered channel checkpoint (session_places channel history.now)) }
 {
     let mut count = 0;
     let mut selection = Selection::none();
     let mut rest = history;
-    while let Some((_, _, behind, later)) = next_entered(&selection, rest, channel, from) {
+    while let Some((_, _, behind, later)) = next_entered(&selection, rest, channel, checkpoint) {
         count += 1;
         selection = behind;
         rest = later;
@@ -99,12 +99,14 @@ pub(crate) fn count(history: &[Sent], channel: Channel, from: u64) -> usize
 }
 
 /// Whether this parameter is coded.
-pub(crate) fn has(history: &[Sent], channel: Channel, from: u64, param: &Param) -> bool
-    ensures { result ≡ list_any (λ (e : Entered). same_param param.now e.param) (entered channel from (session_places channel history.now)) }
+pub(crate) fn has(history: &[Sent], channel: Channel, checkpoint: u64, param: &Param) -> bool
+    ensures { result ≡ list_any (λ (e : Entered). same_param param.now e.param) (entered channel checkpoint (session_places channel history.now)) }
 {
     let mut selection = Selection::none();
     let mut rest = history;
-    while let Some((other, _, behind, later)) = next_entered(&selection, rest, channel, from) {
+    while let Some((other, _, behind, later)) = next_entered(
+        &selection, rest, channel, checkpoint,
+    ) {
         if param.is(&other) {
             return true;
         }
@@ -115,12 +117,14 @@ pub(crate) fn has(history: &[Sent], channel: Channel, from: u64, param: &Param) 
 }
 
 /// Whether a parameter is coded that was last entered in the packet before this one.
-pub(crate) fn is_fresh(history: &[Sent], channel: Channel, from: u64, packet: u64) -> bool
-    ensures { result ≡ fresh_among packet (entered channel from (session_places channel history.now)) }
+pub(crate) fn is_fresh(history: &[Sent], channel: Channel, checkpoint: u64, packet: u64) -> bool
+    ensures { result ≡ fresh_among packet (entered channel checkpoint (session_places channel history.now)) }
 {
     let mut selection = Selection::none();
     let mut rest = history;
-    while let Some((_, place, behind, later)) = next_entered(&selection, rest, channel, from) {
+    while let Some((_, place, behind, later)) = next_entered(
+        &selection, rest, channel, checkpoint,
+    ) {
         if place.is_fresh(packet) {
             return true;
         }
@@ -131,16 +135,18 @@ pub(crate) fn is_fresh(history: &[Sent], channel: Channel, from: u64, packet: u6
 }
 
 /// The number of octets of all logs.
-pub(crate) fn logs_len(history: &[Sent], channel: Channel, from: u64) -> usize
-    requires { length (entered channel from (session_places channel history.now)) ≤ 16 }
-    ensures number { (packet : ℕ) → result ≡ length (param_logs channel from packet (session_places channel history.now)) }
+pub(crate) fn logs_len(history: &[Sent], channel: Channel, checkpoint: u64) -> usize
+    requires { length (entered channel checkpoint (session_places channel history.now)) ≤ 16 }
+    ensures number { (packet : ℕ) → result ≡ length (param_logs channel checkpoint packet (session_places channel history.now)) }
     ensures bound { result ≤ 80 }
 {
     let mut len = 0;
     let mut selection = Selection::none();
     let mut rest = history;
-    while let Some((param, _, behind, later)) = next_entered(&selection, rest, channel, from) {
-        len += Log::of(history, channel, from, param).len();
+    while let Some((param, _, behind, later)) = next_entered(
+        &selection, rest, channel, checkpoint,
+    ) {
+        len += Log::of(history, channel, checkpoint, param).len();
         selection = behind;
         rest = later;
     }
@@ -151,17 +157,19 @@ pub(crate) fn logs_len(history: &[Sent], channel: Channel, from: u64) -> usize
 pub(crate) fn write_logs(
     history: &[Sent],
     channel: Channel,
-    from: u64,
+    checkpoint: u64,
     packet: u64,
     out: &mut Octets,
 )
-    requires { length (param_logs channel from packet (session_places channel history.now)) ≤ out.old.spare }
-    ensures { Appends out.old out.new (param_logs channel from packet (session_places channel history.now)) }
+    requires { length (param_logs channel checkpoint packet (session_places channel history.now)) ≤ out.old.spare }
+    ensures { Appends out.old out.new (param_logs channel checkpoint packet (session_places channel history.now)) }
 {
     let mut selection = Selection::none();
     let mut rest = history;
-    while let Some((param, place, behind, later)) = next_entered(&selection, rest, channel, from) {
-        Log::of(history, channel, from, param).write(place.s_bit(packet), out);
+    while let Some((param, place, behind, later)) = next_entered(
+        &selection, rest, channel, checkpoint,
+    ) {
+        Log::of(history, channel, checkpoint, param).write(place.s_bit(packet), out);
         selection = behind;
         rest = later;
     }

@@ -46,11 +46,11 @@ fn coded_param(
     place: &Sent,
     later: &[Sent],
     channel: Channel,
-    from: u64,
+    checkpoint: u64,
 ) -> Option<Param>
-    ensures { result ≡ coded_param channel from (selection.now, place.now) (placed channel (selection_step channel selection.now place.now) later.now) }
+    ensures { result ≡ coded_param channel checkpoint (selection.now, place.now) (placed channel (selection_step channel selection.now place.now) later.now) }
 {
-    if place.packet < from {
+    if place.packet < checkpoint {
         return None;
     }
     let behind = selection_behind(selection, place, channel);
@@ -71,17 +71,17 @@ pub(crate) fn next_entered<'a>(
     before: &Selection,
     places: &'a [Sent],
     channel: Channel,
-    from: u64,
+    checkpoint: u64,
 ) -> Option<(Param, &'a Sent, Selection, &'a [Sent])>
     ensures { MatchOption result
-        (entered channel from (placed channel before.now places.now) ≡ [])
-        (λ next. IsNext channel from (placed channel before.now places.now) (length places.now) next.0 next.1.now next.2 next.3.now) }
+        (entered channel checkpoint (placed channel before.now places.now) ≡ [])
+        (λ next. IsNext channel checkpoint (placed channel before.now places.now) (length places.now) next.0 next.1.now next.2 next.3.now) }
 {
     let mut selection = *before;
     let mut rest = places;
     while let Some((place, later)) = first_place(rest) {
         let behind = selection_behind(&selection, place, channel);
-        if let Some(param) = coded_param(&selection, place, later, channel, from) {
+        if let Some(param) = coded_param(&selection, place, later, channel, checkpoint) {
             return Some((param, place, behind, later));
         }
         selection = behind;

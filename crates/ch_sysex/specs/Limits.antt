@@ -17,33 +17,33 @@ one_log place = cond (has_log place) 1 0
 -- ## Any command
 
 -- One more command adds at most its own log.
-pub sysex_logs-push : (from : ℕ) (sent : List Sent) (x : Sent) → from ≤ x.packet → sysex_logs from (sent ++ x ∷ []) ≤ sysex_logs from sent + cond (is_logged (event_at x)) 1 0
+pub sysex_logs-push : (checkpoint : ℕ) (sent : List Sent) (x : Sent) → checkpoint ≤ x.packet → sysex_logs checkpoint (sent ++ x ∷ []) ≤ sysex_logs checkpoint sent + cond (is_logged (event_at x)) 1 0
 unfolding sysex_logs
-sysex_logs-push from sent x l = weights_push sysex_ends packet_of one_log from sent x l
+sysex_logs-push checkpoint sent x l = weights_push sysex_ends packet_of one_log checkpoint sent x l
 
-pub sysex_octets-push : (from : ℕ) (sent : List Sent) (x : Sent) → from ≤ x.packet → sysex_octets from (sent ++ x ∷ []) ≤ sysex_octets from sent + log_len x
+pub sysex_octets-push : (checkpoint : ℕ) (sent : List Sent) (x : Sent) → checkpoint ≤ x.packet → sysex_octets checkpoint (sent ++ x ∷ []) ≤ sysex_octets checkpoint sent + log_len x
 unfolding sysex_octets
-sysex_octets-push from sent x l = weights_push sysex_ends packet_of log_len from sent x l
+sysex_octets-push checkpoint sent x l = weights_push sysex_ends packet_of log_len checkpoint sent x l
 
 -- ## A kept message
 
-pub sysex_logs-kept : (from : ℕ) (sent : List Sent) (x : Sent) → from ≤ x.packet → sysex_event x.command ≡ Kept → sysex_logs from (sent ++ x ∷ []) ≤ sysex_logs from sent + 1
-sysex_logs-kept from sent x l e =
-    let more = sysex_logs-push from sent x l in
+pub sysex_logs-kept : (checkpoint : ℕ) (sent : List Sent) (x : Sent) → checkpoint ≤ x.packet → sysex_event x.command ≡ Kept → sysex_logs checkpoint (sent ++ x ∷ []) ≤ sysex_logs checkpoint sent + 1
+sysex_logs-kept checkpoint sent x l e =
+    let more = sysex_logs-push checkpoint sent x l in
     let one : one_log x ≡ 1 = rw e refl in
     omega (arith, more, one)
 
-pub sysex_octets-kept : (from : ℕ) (sent : List Sent) (x : Sent) → from ≤ x.packet → sysex_event x.command ≡ Kept → sysex_octets from (sent ++ x ∷ []) ≤ sysex_octets from sent + (2 + length (data_of x.command))
-sysex_octets-kept from sent x l e =
-    let more = sysex_octets-push from sent x l in
+pub sysex_octets-kept : (checkpoint : ℕ) (sent : List Sent) (x : Sent) → checkpoint ≤ x.packet → sysex_event x.command ≡ Kept → sysex_octets checkpoint (sent ++ x ∷ []) ≤ sysex_octets checkpoint sent + (2 + length (data_of x.command))
+sysex_octets-kept checkpoint sent x l e =
+    let more = sysex_octets-push checkpoint sent x l in
     let one : log_len x ≡ 2 + length (data_of x.command) = rw e refl in
     omega (arith, more, one)
 
 -- ## A command without a log
 
-pub sysex_logs-other : (from : ℕ) (sent : List Sent) (x : Sent) → from ≤ x.packet → is_logged (sysex_event x.command) ≡ false → sysex_logs from (sent ++ x ∷ []) ≤ sysex_logs from sent
-sysex_logs-other from sent x l e =
-    let more = sysex_logs-push from sent x l in
+pub sysex_logs-other : (checkpoint : ℕ) (sent : List Sent) (x : Sent) → checkpoint ≤ x.packet → is_logged (sysex_event x.command) ≡ false → sysex_logs checkpoint (sent ++ x ∷ []) ≤ sysex_logs checkpoint sent
+sysex_logs-other checkpoint sent x l e =
+    let more = sysex_logs-push checkpoint sent x l in
     let none : one_log x ≡ 0 = rw e refl in
     omega (arith, more, none)
 
@@ -53,9 +53,9 @@ no_len ResetMessage octets e = cc
 no_len Reset octets e = refl
 no_len Other octets e = refl
 
-pub sysex_octets-other : (from : ℕ) (sent : List Sent) (x : Sent) → from ≤ x.packet → is_logged (sysex_event x.command) ≡ false → sysex_octets from (sent ++ x ∷ []) ≤ sysex_octets from sent
-sysex_octets-other from sent x l e =
-    let more = sysex_octets-push from sent x l in
+pub sysex_octets-other : (checkpoint : ℕ) (sent : List Sent) (x : Sent) → checkpoint ≤ x.packet → is_logged (sysex_event x.command) ≡ false → sysex_octets checkpoint (sent ++ x ∷ []) ≤ sysex_octets checkpoint sent
+sysex_octets-other checkpoint sent x l e =
+    let more = sysex_octets-push checkpoint sent x l in
     let none = no_len (event_at x) (data_of x.command) e in
     omega (arith, more, none)
 
@@ -69,15 +69,15 @@ unlogged x y r h = one (is_logged (event_at x)) (rw r at h)
     one false e = refl
 
 -- What it ends are all logs, so its own is all.
-pub sysex_logs-reset : (from : ℕ) (sent : List Sent) (x : Sent) → from ≤ x.packet → is_reset x.command ≡ true → sysex_logs from (sent ++ x ∷ []) ≡ cond (is_logged (event_at x)) 1 0
+pub sysex_logs-reset : (checkpoint : ℕ) (sent : List Sent) (x : Sent) → checkpoint ≤ x.packet → is_reset x.command ≡ true → sysex_logs checkpoint (sent ++ x ∷ []) ≡ cond (is_logged (event_at x)) 1 0
 unfolding sysex_logs
-sysex_logs-reset from sent x l r =
-    weights_ended sysex_ends packet_of one_log from sent x l (λ y h. let e = unlogged y x r h in ap (λ (b : Bool). cond b 1 0) e)
+sysex_logs-reset checkpoint sent x l r =
+    weights_ended sysex_ends packet_of one_log checkpoint sent x l (λ y h. let e = unlogged y x r h in ap (λ (b : Bool). cond b 1 0) e)
 
-pub sysex_octets-reset : (from : ℕ) (sent : List Sent) (x : Sent) → from ≤ x.packet → is_reset x.command ≡ true → sysex_octets from (sent ++ x ∷ []) ≡ log_len x
+pub sysex_octets-reset : (checkpoint : ℕ) (sent : List Sent) (x : Sent) → checkpoint ≤ x.packet → is_reset x.command ≡ true → sysex_octets checkpoint (sent ++ x ∷ []) ≡ log_len x
 unfolding sysex_octets
-sysex_octets-reset from sent x l r =
-    weights_ended sysex_ends packet_of log_len from sent x l (λ y h. no_len (event_at y) (data_of y.command) (unlogged y x r h))
+sysex_octets-reset checkpoint sent x l r =
+    weights_ended sysex_ends packet_of log_len checkpoint sent x l (λ y h. no_len (event_at y) (data_of y.command) (unlogged y x r h))
 
 -- A message that turns General MIDI on has four data octets.
 four : (octets : List ℕ) → is_reset_message octets ≡ true → length octets ≡ 4
@@ -93,26 +93,26 @@ len-reset SystemReset h = omega arith
 len-reset (Sysex octets) h = let l = four octets h in rw h (omega (arith, l))
 len-reset command h = cc
 
-pub sysex_logs-reset-le : (from : ℕ) (sent : List Sent) (x : Sent) → from ≤ x.packet → is_reset x.command ≡ true → sysex_logs from (sent ++ x ∷ []) ≤ 1
-sysex_logs-reset-le from sent x l r =
-    let e = sysex_logs-reset from sent x l r in
+pub sysex_logs-reset-le : (checkpoint : ℕ) (sent : List Sent) (x : Sent) → checkpoint ≤ x.packet → is_reset x.command ≡ true → sysex_logs checkpoint (sent ++ x ∷ []) ≤ 1
+sysex_logs-reset-le checkpoint sent x l r =
+    let e = sysex_logs-reset checkpoint sent x l r in
     rw e (small (is_logged (event_at x)))
   where
     small : (b : Bool) → cond b 1 0 ≤ 1
     small true = omega arith
     small false = omega arith
 
-pub sysex_octets-reset-le : (from : ℕ) (sent : List Sent) (x : Sent) → from ≤ x.packet → is_reset x.command ≡ true → sysex_octets from (sent ++ x ∷ []) ≤ 6
-sysex_octets-reset-le from sent x l r =
-    let e = sysex_octets-reset from sent x l r in
+pub sysex_octets-reset-le : (checkpoint : ℕ) (sent : List Sent) (x : Sent) → checkpoint ≤ x.packet → is_reset x.command ≡ true → sysex_octets checkpoint (sent ++ x ∷ []) ≤ 6
+sysex_octets-reset-le checkpoint sent x l r =
+    let e = sysex_octets-reset checkpoint sent x l r in
     rw e (len-reset x.command r)
 
 -- ## A later checkpoint
 
-pub sysex_logs-later : (from later : ℕ) (sent : List Sent) → from ≤ later → sysex_logs later sent ≤ sysex_logs from sent
+pub sysex_logs-later : (checkpoint later : ℕ) (sent : List Sent) → checkpoint ≤ later → sysex_logs later sent ≤ sysex_logs checkpoint sent
 unfolding sysex_logs
-sysex_logs-later from later sent l = weights_later sysex_ends packet_of one_log from later sent l
+sysex_logs-later checkpoint later sent l = weights_later sysex_ends packet_of one_log checkpoint later sent l
 
-pub sysex_octets-later : (from later : ℕ) (sent : List Sent) → from ≤ later → sysex_octets later sent ≤ sysex_octets from sent
+pub sysex_octets-later : (checkpoint later : ℕ) (sent : List Sent) → checkpoint ≤ later → sysex_octets later sent ≤ sysex_octets checkpoint sent
 unfolding sysex_octets
-sysex_octets-later from later sent l = weights_later sysex_ends packet_of log_len from later sent l
+sysex_octets-later checkpoint later sent l = weights_later sysex_ends packet_of log_len checkpoint later sent l

@@ -25,12 +25,12 @@ fn is_ended(event: SysexEvent, later: &[Sent]) -> bool
 
 /// What is coded of this place's event behind the later places: itself, or `Other` where one of them ends
 /// it or where it is older than the checkpoint.
-pub(crate) fn coded_event(place: &Sent, later: &[Sent], from: u64) -> SysexEvent
+pub(crate) fn coded_event(place: &Sent, later: &[Sent], checkpoint: u64) -> SysexEvent
     ensures { result ≡ (if list_any (sysex_ends place.now) later.now then Other
-        else (if nat_le from place.now.packet then event_at place.now else Other)) }
+        else (if nat_le checkpoint place.now.packet then event_at place.now else Other)) }
 {
     let event = sysex_event(&place.command);
-    if place.packet < from {
+    if place.packet < checkpoint {
         return SysexEvent::Other;
     }
     if is_ended(event, later) {

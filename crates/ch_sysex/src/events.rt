@@ -9,7 +9,7 @@ use jm_cmds::Command;
 /// What a command means for Chapter X.
 #[derive(Clone, Copy, PartialEq, Eq, Debug)]
 pub enum SysexEvent {
-    /// A System Exclusive message of at most 254 data octets that is no Reset State command. It is
+    /// A System Exclusive message short enough to be kept (`LONGEST_KEPT` of jm_cmds) that is no Reset State command. It is
     /// counted.
     Kept,
     /// A System Exclusive message that is a Reset State command.
@@ -19,9 +19,6 @@ pub enum SysexEvent {
     /// Nothing.
     Other,
 }
-
-/// The most data octets that a message of the chapter has.
-const MOST_DATA: usize = 254;
 
 /// What this command means for Chapter X.
 pub fn sysex_event(command: &Command) -> SysexEvent
@@ -33,7 +30,7 @@ pub fn sysex_event(command: &Command) -> SysexEvent
             if command.is_reset() {
                 return SysexEvent::ResetMessage;
             }
-            if message.len() <= MOST_DATA {
+            if message.is_kept() {
                 return SysexEvent::Kept;
             }
             SysexEvent::Other

@@ -1,4 +1,4 @@
--- Chapter F (RFC 6295, B.4, Figures B.4.1 and B.4.2).
+-- Chapter F (RFC 6295, B.4, Figures B.4.1 and B.4.2). That COMPLETE has the nibbles as they were sent, forwards too, is this project's own.
 use Rattle.std.specs.Prelude.{ℕ, Bool, not, List, [], ◌++◌, Option, Some, None}
 use Rattle.std.specs.List.{flat_map}
 use Rattle.std.specs.Option.{is_some}
@@ -37,10 +37,10 @@ time_octets_of fresh None = []
 time_octets_of fresh (Some code) = code_octets fresh code
 
 -- Chapter F in the journal of a packet
-unfoldable pub chapter_f : (from packet : ℕ) → List Sent → List ℕ
-chapter_f from packet sent =
-    flat_map (λ place. time_octets_of (is_fresh packet place) (time_code_after (below packet_of packet sent))) (item_coded Frames from packet sent)
+unfoldable pub chapter_f : (checkpoint packet : ℕ) → List Sent → List ℕ
+chapter_f checkpoint packet sent =
+    flat_map (λ place. time_octets_of (is_fresh packet place) (time_code_after (below packet_of packet sent))) (item_coded Frames checkpoint packet sent)
 
 -- whether its S is 0
-unfoldable pub fresh_f : (from packet : ℕ) → List Sent → Bool
-fresh_f from packet sent = item_fresh Frames from packet sent
+unfoldable pub fresh_f : (checkpoint packet : ℕ) → List Sent → Bool
+fresh_f checkpoint packet sent = item_fresh Frames checkpoint packet sent

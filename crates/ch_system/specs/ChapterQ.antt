@@ -1,4 +1,4 @@
--- Chapter Q (RFC 6295, B.3, Figure B.3.1).
+-- Chapter Q (RFC 6295, B.3, Figure B.3.1). That C is 0 wherever the position is 0 is this project's own.
 use Rattle.std.specs.Prelude.{ℕ, ◌/◌, ◌%◌, Bool, true, false, not, List, [], ◌++◌, Option, Some, None, ◌==◌, if◌then◌else◌}
 use Rattle.std.specs.List.{flat_map}
 use Rattle.jm_wire.specs.Numbers.{be16}
@@ -34,10 +34,10 @@ position_octets fresh None = []
 position_octets fresh (Some state) = sequencer_octets fresh state
 
 -- Chapter Q in the journal of a packet
-unfoldable pub chapter_q : (from packet : ℕ) → List Sent → List ℕ
-chapter_q from packet sent =
-    flat_map (λ place. position_octets (is_fresh packet place) (sequencer_after (below packet_of packet sent))) (item_coded Sequence from packet sent)
+unfoldable pub chapter_q : (checkpoint packet : ℕ) → List Sent → List ℕ
+chapter_q checkpoint packet sent =
+    flat_map (λ place. position_octets (is_fresh packet place) (sequencer_after (below packet_of packet sent))) (item_coded Sequence checkpoint packet sent)
 
 -- whether its S is 0
-unfoldable pub fresh_q : (from packet : ℕ) → List Sent → Bool
-fresh_q from packet sent = item_fresh Sequence from packet sent
+unfoldable pub fresh_q : (checkpoint packet : ℕ) → List Sent → Bool
+fresh_q checkpoint packet sent = item_fresh Sequence checkpoint packet sent

@@ -7,9 +7,9 @@ use Rattle.ch_system.specs.declared.items.SystemItem.TheVariants.{Sensing}
 use Rattle.ch_system.specs.Items.{item_coded, item_count, item_fresh}
 
 -- Chapter V in the journal of a packet: S COUNT
-unfoldable pub chapter_v : (from packet : ℕ) → List Sent → List ℕ
-chapter_v from packet sent = map (λ place. s_bit packet place + item_count Sensing (below packet_of packet sent)) (item_coded Sensing from packet sent)
+unfoldable pub chapter_v : (checkpoint packet : ℕ) → List Sent → List ℕ
+chapter_v checkpoint packet sent = map (λ place. s_bit packet place + item_count Sensing (below packet_of packet sent)) (item_coded Sensing checkpoint packet sent)
 
 -- whether its S is 0
-unfoldable pub fresh_v : (from packet : ℕ) → List Sent → Bool
-fresh_v from packet sent = item_fresh Sensing from packet sent
+unfoldable pub fresh_v : (checkpoint packet : ℕ) → List Sent → Bool
+fresh_v checkpoint packet sent = item_fresh Sensing checkpoint packet sent

@@ -90,7 +90,7 @@ time_code_lasts = record {
   kept = λ state (place : Sent) r s. kept state place.command r s;
 }
 
-pub time_code_there : (from packet : ℕ) (sent : List Sent) (x : Sent) (rest : List Sent) → item_coded Frames from packet sent ≡ x ∷ rest →
+pub time_code_there : (checkpoint packet : ℕ) (sent : List Sent) (x : Sent) (rest : List Sent) → item_coded Frames checkpoint packet sent ≡ x ∷ rest →
     is_some (time_code_after (below packet_of packet sent)) ≡ true
 unfolding time_code_after
-time_code_there from packet sent x rest e = coded_there Frames time_code_along time_code_lasts from packet sent x rest e
+time_code_there checkpoint packet sent x rest e = coded_there Frames time_code_along time_code_lasts checkpoint packet sent x rest e

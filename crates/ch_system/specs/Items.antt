@@ -1,11 +1,12 @@
 -- The items of the system chapters (RFC 6295, B.1 to B.4), and where each is coded.
-use Rattle.std.specs.Prelude.{ℕ, ◌%◌, Bool, true, false, ◌&&◌, ◌||◌, not, List, filter, count_by}
+use Rattle.std.specs.Prelude.{ℕ, ◌%◌, Bool, true, false, ◌||◌, List, filter, count_by}
 use Rattle.std.specs.List.{list_any}
 use Rattle.jm_cmds.specs.declared.commands.Command.{Command}
 use Rattle.jm_cmds.specs.declared.commands.Command.TheVariants.{QuarterFrame, SongPosition, SongSelect, TuneRequest, Clock, Start, Continue, Stop, ActiveSensing, SystemReset}
 use Rattle.jm_cmds.specs.declared.history.Sent.{Sent}
 use Rattle.jm_cmds.specs.Control.{is_reset}
-use Rattle.jm_cmds.specs.History.{standing, coded, below}
+use Rattle.jm_cmds.specs.History.{coded, below}
+use Rattle.jm_cmds.specs.OneItem.{replaced}
 use Rattle.jm_cmds.specs.Sent.{packet_of, is_fresh}
 use Rattle.ch_system.specs.declared.items.SystemItem.{SystemItem}
 use Rattle.ch_system.specs.declared.items.SystemItem.TheVariants.{Reset, Tune, Song, Sensing, Sequence, Frames}
@@ -54,26 +55,22 @@ is_place_of item place = is_of item place.command
 
 -- ## What is coded of it
 
+-- whether behind this place an earlier one of the item isn't coded: it is of the item, or a Reset State command
+abbrev pub touches : SystemItem → Sent → Bool
+touches item place = is_of item place.command || is_reset place.command
+
 -- What ends what: a later command of the item takes the place of an earlier one, and a Reset State command makes it
 -- inactive.
 abbrev pub item_ends : SystemItem → Sent → Sent → Bool
-item_ends item place later = is_of item place.command && (is_of item later.command || is_reset later.command)
-
--- the item's place that stands among these
-unfoldable pub item_standing : SystemItem → List Sent → List Sent
-item_standing item places = filter (is_place_of item) (standing (item_ends item) places)
+item_ends item place later = replaced (is_place_of item) (touches item) place later
 
 -- The place that a packet's journal codes of the item. It is one at most.
-unfoldable pub item_coded : SystemItem → ℕ → ℕ → List Sent → List Sent
-item_coded item from packet sent = filter (is_place_of item) (coded (item_ends item) packet_of from (below packet_of packet sent))
+unfoldable pub item_coded : SystemItem → (checkpoint packet : ℕ) → List Sent → List Sent
+item_coded item checkpoint packet sent = filter (is_place_of item) (coded (item_ends item) packet_of checkpoint (below packet_of packet sent))
 
 -- whether the packet before brought what is coded of the item
-abbrev pub item_fresh : SystemItem → ℕ → ℕ → List Sent → Bool
-item_fresh item from packet sent = list_any (is_fresh packet) (item_coded item from packet sent)
-
--- whether the place is the item's, and none of the later ones ends it
-abbrev pub is_standing : SystemItem → Sent → List Sent → Bool
-is_standing item place later = is_of item place.command && not (list_any (item_ends item place) later)
+abbrev pub item_fresh : SystemItem → (checkpoint packet : ℕ) → List Sent → Bool
+item_fresh item checkpoint packet sent = list_any (is_fresh packet) (item_coded item checkpoint packet sent)
 
 -- ## How often it was sent
 

@@ -93,7 +93,7 @@ position_lasts = record {
   kept = λ state (place : Sent) r s. kept state place.command r s;
 }
 
-pub position_there : (from packet : ℕ) (sent : List Sent) (x : Sent) (rest : List Sent) → item_coded Sequence from packet sent ≡ x ∷ rest →
+pub position_there : (checkpoint packet : ℕ) (sent : List Sent) (x : Sent) (rest : List Sent) → item_coded Sequence checkpoint packet sent ≡ x ∷ rest →
     is_some (sequencer_after (below packet_of packet sent)) ≡ true
 unfolding sequencer_after
-position_there from packet sent x rest e = coded_there Sequence sequencer_along position_lasts from packet sent x rest e
+position_there checkpoint packet sent x rest e = coded_there Sequence sequencer_along position_lasts checkpoint packet sent x rest e

@@ -60,9 +60,9 @@ any-left p q (y ∷ ys) x rest e =
       ]
     ]
 
-pub coded_there : {S : Type 0} (item : SystemItem) (step : Option S → Sent → Option S) → Lasts item step → (from packet : ℕ) (sent : List Sent) (x : Sent) (rest : List Sent) →
-    item_coded item from packet sent ≡ x ∷ rest → is_some (fold step None (below packet_of packet sent)) ≡ true
+pub coded_there : {S : Type 0} (item : SystemItem) (step : Option S → Sent → Option S) → Lasts item step → (checkpoint packet : ℕ) (sent : List Sent) (x : Sent) (rest : List Sent) →
+    item_coded item checkpoint packet sent ≡ x ∷ rest → is_some (fold step None (below packet_of packet sent)) ≡ true
 unfolding item_coded
-coded_there item step lasts from packet sent x rest e =
+coded_there item step lasts checkpoint packet sent x rest e =
     let seen = below packet_of packet sent in
-    standing_there item step lasts None seen (any-left (is_place_of item) (λ (place : Sent). leb from (packet_of place)) (standing (item_ends item) seen) x rest e)
+    standing_there item step lasts None seen (any-left (is_place_of item) (λ (place : Sent). leb checkpoint (packet_of place)) (standing (item_ends item) seen) x rest e)

@@ -109,12 +109,12 @@ fn song_of(command: &Command) -> D7
 }
 
 /// The log of an item that is counted.
-fn count_log(list: &[Sent], item: SystemItem, from: u64, packet: u64) -> Log
+fn count_log(list: &[Sent], item: SystemItem, checkpoint: u64, packet: u64) -> Log
     requires { InOrder packet_of list.now }
-    ensures log { listed result.octet ≡ count_logs item from packet list.now }
-    ensures fresh { result.fresh ≡ item_fresh item from packet list.now }
+    ensures log { listed result.octet ≡ count_logs item checkpoint packet list.now }
+    ensures fresh { result.fresh ≡ item_fresh item checkpoint packet list.now }
 {
-    match coded_place(list, item, from, packet) {
+    match coded_place(list, item, checkpoint, packet) {
         None => Log {
             octet: None,
             fresh: false,
@@ -127,12 +127,12 @@ fn count_log(list: &[Sent], item: SystemItem, from: u64, packet: u64) -> Log
 }
 
 /// The log of the song.
-fn song_log(list: &[Sent], from: u64, packet: u64) -> Log
+fn song_log(list: &[Sent], checkpoint: u64, packet: u64) -> Log
     requires { InOrder packet_of list.now }
-    ensures log { listed result.octet ≡ song_logs from packet list.now }
-    ensures fresh { result.fresh ≡ item_fresh SystemItem.Song from packet list.now }
+    ensures log { listed result.octet ≡ song_logs checkpoint packet list.now }
+    ensures fresh { result.fresh ≡ item_fresh SystemItem.Song checkpoint packet list.now }
 {
-    match coded_place(list, SystemItem::Song, from, packet) {
+    match coded_place(list, SystemItem::Song, checkpoint, packet) {
         None => Log {
             octet: None,
             fresh: false,
@@ -146,46 +146,46 @@ fn song_log(list: &[Sent], from: u64, packet: u64) -> Log
 
 /// The logs of this packet's journal.
 #[tactic(auto, unfolding(crate::specs::ChapterD::chapter_d, crate::specs::ChapterD::fresh_d))]
-fn logs_of(list: &[Sent], from: u64, packet: u64) -> Logs
+fn logs_of(list: &[Sent], checkpoint: u64, packet: u64) -> Logs
     requires { InOrder packet_of list.now }
-    ensures octets { logs_octets result ≡ chapter_d from packet list.now }
-    ensures fresh { logs_fresh result ≡ fresh_d from packet list.now }
+    ensures octets { logs_octets result ≡ chapter_d checkpoint packet list.now }
+    ensures fresh { logs_fresh result ≡ fresh_d checkpoint packet list.now }
 {
     Logs {
-        reset: count_log(list, SystemItem::Reset, from, packet),
-        tune: count_log(list, SystemItem::Tune, from, packet),
-        song: song_log(list, from, packet),
+        reset: count_log(list, SystemItem::Reset, checkpoint, packet),
+        tune: count_log(list, SystemItem::Tune, checkpoint, packet),
+        song: song_log(list, checkpoint, packet),
     }
 }
 
 /// The number of Chapter D's octets in the journal of this packet. It is 0 where none of its items is coded.
 ///
-/// The list is the session's history, and may go past the packet. `from` is the journal's checkpoint.
-pub fn plain_len(list: &[Sent], from: u64, packet: u64, tick: u64) -> usize
+/// The list is the session's history, and may go past the packet. `checkpoint` is the journal's.
+pub fn plain_len(list: &[Sent], checkpoint: u64, packet: u64, tick: u64) -> usize
     requires { InOrder packet_of list.now }
-    ensures number { result ≡ length (chapter_d from packet list.now) }
+    ensures number { result ≡ length (chapter_d checkpoint packet list.now) }
     ensures bound { result ≤ 4 }
 {
     let _ = tick;
-    logs_of(list, from, packet).len()
+    logs_of(list, checkpoint, packet).len()
 }
 
 /// Appends Chapter D for the journal of this packet: the last System Reset and the last Tune Request, each with how
-/// often the session has sent it, and the song, where the packets from `from` on brought them and no Reset State
+/// often the session has sent it, and the song, where the packets from the checkpoint on brought them and no Reset State
 /// command followed. `tick` is the packet's, in units of 100 microseconds.
-pub fn plain_write(list: &[Sent], from: u64, packet: u64, tick: u64, out: &mut Octets)
+pub fn plain_write(list: &[Sent], checkpoint: u64, packet: u64, tick: u64, out: &mut Octets)
     requires order { InOrder packet_of list.now }
-    requires spare { length (chapter_d from packet list.now) ≤ out.old.spare }
-    ensures { Appends out.old out.new (chapter_d from packet list.now) }
+    requires spare { length (chapter_d checkpoint packet list.now) ≤ out.old.spare }
+    ensures { Appends out.old out.new (chapter_d checkpoint packet list.now) }
 {
     let _ = tick;
-    logs_of(list, from, packet).write(out);
+    logs_of(list, checkpoint, packet).write(out);
 }
 
 /// Whether the S of the chapter is 0: a command of its logs is of the packet before.
-pub fn plain_fresh(list: &[Sent], from: u64, packet: u64) -> bool
+pub fn plain_fresh(list: &[Sent], checkpoint: u64, packet: u64) -> bool
     requires { InOrder packet_of list.now }
-    ensures { result ≡ fresh_d from packet list.now }
+    ensures { result ≡ fresh_d checkpoint packet list.now }
 {
-    logs_of(list, from, packet).is_fresh()
+    logs_of(list, checkpoint, packet).is_fresh()
 }

@@ -52,15 +52,15 @@ fn write_code(fresh: bool, code: &TimePart, out: &mut Octets)
 
 /// The number of Chapter F's octets in the journal of this packet. It is 0 where the item isn't coded.
 ///
-/// The list is the session's history, and may go past the packet. `from` is the journal's checkpoint.
+/// The list is the session's history, and may go past the packet. `checkpoint` is the journal's.
 #[tactic(auto, unfolding(crate::specs::ChapterF::chapter_f))]
-pub fn plain_len(list: &[Sent], from: u64, packet: u64, tick: u64) -> usize
+pub fn plain_len(list: &[Sent], checkpoint: u64, packet: u64, tick: u64) -> usize
     requires { InOrder packet_of list.now }
-    ensures number { result ≡ length (chapter_f from packet list.now) }
+    ensures number { result ≡ length (chapter_f checkpoint packet list.now) }
     ensures bound { result ≤ 9 }
 {
     let _ = tick;
-    if coded_place(list, SystemItem::Frames, from, packet).is_none() {
+    if coded_place(list, SystemItem::Frames, checkpoint, packet).is_none() {
         return 0;
     }
     match time_code_after(session_history(list, packet)) {
@@ -69,16 +69,16 @@ pub fn plain_len(list: &[Sent], from: u64, packet: u64, tick: u64) -> usize
     }
 }
 
-/// Appends Chapter F for the journal of this packet: the time code, where the packets from `from` on brought a quarter
+/// Appends Chapter F for the journal of this packet: the time code, where the packets from the checkpoint on brought a quarter
 /// frame and no Reset State command followed. `tick` is the packet's, in units of 100 microseconds.
 #[tactic(auto, unfolding(crate::specs::ChapterF::chapter_f))]
-pub fn plain_write(list: &[Sent], from: u64, packet: u64, tick: u64, out: &mut Octets)
+pub fn plain_write(list: &[Sent], checkpoint: u64, packet: u64, tick: u64, out: &mut Octets)
     requires order { InOrder packet_of list.now }
-    requires spare { length (chapter_f from packet list.now) ≤ out.old.spare }
-    ensures { Appends out.old out.new (chapter_f from packet list.now) }
+    requires spare { length (chapter_f checkpoint packet list.now) ≤ out.old.spare }
+    ensures { Appends out.old out.new (chapter_f checkpoint packet list.now) }
 {
     let _ = tick;
-    if let Some(place) = coded_place(list, SystemItem::Frames, from, packet) {
+    if let Some(place) = coded_place(list, SystemItem::Frames, checkpoint, packet) {
         if let Some(code) = time_code_after(session_history(list, packet)) {
             write_code(place.is_fresh(packet), &code, out);
         }
@@ -87,9 +87,9 @@ pub fn plain_write(list: &[Sent], from: u64, packet: u64, tick: u64, out: &mut O
 
 /// Whether the chapter's S is 0: the latest quarter frame is of the packet before.
 #[tactic(auto, unfolding(crate::specs::ChapterF::fresh_f))]
-pub fn plain_fresh(list: &[Sent], from: u64, packet: u64) -> bool
+pub fn plain_fresh(list: &[Sent], checkpoint: u64, packet: u64) -> bool
     requires { InOrder packet_of list.now }
-    ensures { result ≡ fresh_f from packet list.now }
+    ensures { result ≡ fresh_f checkpoint packet list.now }
 {
-    item_fresh(list, SystemItem::Frames, from, packet)
+    item_fresh(list, SystemItem::Frames, checkpoint, packet)
 }

@@ -3,8 +3,9 @@
 ghost use Rattle.std.specs.Prelude.{◌≡◌, ◌<◌, [], ◌∷◌, MatchOption};
 ghost use Rattle.std.specs.List.{list_any};
 ghost use Rattle.jm_cmds.specs.History.{InOrder};
+ghost use Rattle.jm_cmds.specs.OnePlace.{stands, one_standing};
 ghost use Rattle.jm_cmds.specs.Sent.{packet_of};
-ghost use Rattle.ch_system.specs.Items.{is_of, item_ends, is_standing, item_standing, item_coded, item_count, item_fresh};
+ghost use Rattle.ch_system.specs.Items.{is_of, is_place_of, touches, item_coded, item_count, item_fresh};
 
 use jm_cmds::{Command, Sent, checkpoint_history, first_place};
 
@@ -47,30 +48,31 @@ pub(crate) fn is_of(command: &Command, item: SystemItem) -> bool
     }
 }
 
-/// Whether the later place takes the place of the item's earlier one, or makes it inactive.
-fn item_ends(place: &Sent, later: &Sent, item: SystemItem) -> bool
-    ensures { result ≡ item_ends item place.now later.now }
+/// Whether behind this place an earlier one of the item isn't coded: it takes that one's place, or makes it inactive.
+fn touches(place: &Sent, item: SystemItem) -> bool
+    ensures { result ≡ touches item place.now }
 {
-    is_of(&place.command, item) && (is_of(&later.command, item) || later.command.is_reset())
+    is_of(&place.command, item) || place.command.is_reset()
 }
 
-/// Whether one of the later places ends this one.
-fn is_ended(place: &Sent, later: &[Sent], item: SystemItem) -> bool
-    ensures { result ≡ list_any (item_ends item place.now) later.now }
+/// Whether one of the later places touches the item.
+fn is_touched(later: &[Sent], item: SystemItem) -> bool
+    ensures { result ≡ list_any (touches item) later.now }
 {
-    later.iter().any(|after| item_ends(place, after, item))
+    later.iter().any(|after| touches(after, item))
 }
 
-/// Whether the place is the item's, and no later one ends it.
+/// Whether the place is the item's, and no later one touches it.
 fn is_standing(place: &Sent, later: &[Sent], item: SystemItem) -> bool
-    ensures { result ≡ is_standing item place.now later.now }
+    ensures { result ≡ stands (is_place_of item) (touches item) place.now later.now }
 {
-    is_of(&place.command, item) && !is_ended(place, later, item)
+    is_of(&place.command, item) && !is_touched(later, item)
 }
 
 /// The place of the item that stands among these, if there is one.
 fn standing_place(places: &[Sent], item: SystemItem) -> Option<&Sent>
-    ensures { MatchOption result (item_standing item places.now ≡ []) (λ place. item_standing item places.now ≡ place.now ∷ []) }
+    ensures { MatchOption result (one_standing (is_place_of item) (touches item) places.now ≡ [])
+        (λ place. one_standing (is_place_of item) (touches item) places.now ≡ place.now ∷ []) }
 {
     let mut rest = places;
     while let Some((place, later)) = first_place(rest) {
@@ -83,20 +85,25 @@ fn standing_place(places: &[Sent], item: SystemItem) -> Option<&Sent>
 }
 
 /// The place that this packet's journal codes of the item, if there is one.
-pub(crate) fn coded_place(list: &[Sent], item: SystemItem, from: u64, packet: u64) -> Option<&Sent>
+pub(crate) fn coded_place(
+    list: &[Sent],
+    item: SystemItem,
+    checkpoint: u64,
+    packet: u64,
+) -> Option<&Sent>
     requires { InOrder packet_of list.now }
-    ensures { MatchOption result (item_coded item from packet list.now ≡ [])
-        (λ place. item_coded item from packet list.now ≡ place.now ∷ []) }
+    ensures { MatchOption result (item_coded item checkpoint packet list.now ≡ [])
+        (λ place. item_coded item checkpoint packet list.now ≡ place.now ∷ []) }
 {
-    standing_place(checkpoint_history(list, from, packet), item)
+    standing_place(checkpoint_history(list, checkpoint, packet), item)
 }
 
 /// Whether the packet before brought what this packet's journal codes of the item.
-pub(crate) fn item_fresh(list: &[Sent], item: SystemItem, from: u64, packet: u64) -> bool
+pub(crate) fn item_fresh(list: &[Sent], item: SystemItem, checkpoint: u64, packet: u64) -> bool
     requires { InOrder packet_of list.now }
-    ensures { result ≡ item_fresh item from packet list.now }
+    ensures { result ≡ item_fresh item checkpoint packet list.now }
 {
-    match coded_place(list, item, from, packet) {
+    match coded_place(list, item, checkpoint, packet) {
         None => false,
         Some(place) => place.is_fresh(packet),
     }

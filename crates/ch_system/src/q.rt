@@ -33,15 +33,15 @@ fn write_position(fresh: bool, state: &SequencerPart, out: &mut Octets)
 
 /// The number of Chapter Q's octets in the journal of this packet. It is 0 where the item isn't coded.
 ///
-/// The list is the session's history, and may go past the packet. `from` is the journal's checkpoint.
+/// The list is the session's history, and may go past the packet. `checkpoint` is the journal's.
 #[tactic(auto, unfolding(crate::specs::ChapterQ::chapter_q))]
-pub fn plain_len(list: &[Sent], from: u64, packet: u64, tick: u64) -> usize
+pub fn plain_len(list: &[Sent], checkpoint: u64, packet: u64, tick: u64) -> usize
     requires { InOrder packet_of list.now }
-    ensures number { result ≡ length (chapter_q from packet list.now) }
+    ensures number { result ≡ length (chapter_q checkpoint packet list.now) }
     ensures bound { result ≤ 3 }
 {
     let _ = tick;
-    if coded_place(list, SystemItem::Sequence, from, packet).is_none() {
+    if coded_place(list, SystemItem::Sequence, checkpoint, packet).is_none() {
         return 0;
     }
     match sequencer_after(session_history(list, packet)) {
@@ -50,17 +50,17 @@ pub fn plain_len(list: &[Sent], from: u64, packet: u64, tick: u64) -> usize
     }
 }
 
-/// Appends Chapter Q for the journal of this packet: the song position, where the packets from `from` on brought a
+/// Appends Chapter Q for the journal of this packet: the song position, where the packets from the checkpoint on brought a
 /// Clock, a Start, a Continue, a Stop or a Song Position and no Reset State command followed. `tick` is the
 /// packet's, in units of 100 microseconds.
 #[tactic(auto, unfolding(crate::specs::ChapterQ::chapter_q))]
-pub fn plain_write(list: &[Sent], from: u64, packet: u64, tick: u64, out: &mut Octets)
+pub fn plain_write(list: &[Sent], checkpoint: u64, packet: u64, tick: u64, out: &mut Octets)
     requires order { InOrder packet_of list.now }
-    requires spare { length (chapter_q from packet list.now) ≤ out.old.spare }
-    ensures { Appends out.old out.new (chapter_q from packet list.now) }
+    requires spare { length (chapter_q checkpoint packet list.now) ≤ out.old.spare }
+    ensures { Appends out.old out.new (chapter_q checkpoint packet list.now) }
 {
     let _ = tick;
-    if let Some(place) = coded_place(list, SystemItem::Sequence, from, packet) {
+    if let Some(place) = coded_place(list, SystemItem::Sequence, checkpoint, packet) {
         if let Some(state) = sequencer_after(session_history(list, packet)) {
             write_position(place.is_fresh(packet), &state, out);
         }
@@ -69,9 +69,9 @@ pub fn plain_write(list: &[Sent], from: u64, packet: u64, tick: u64, out: &mut O
 
 /// Whether the chapter's S is 0: the latest of its commands is of the packet before.
 #[tactic(auto, unfolding(crate::specs::ChapterQ::fresh_q))]
-pub fn plain_fresh(list: &[Sent], from: u64, packet: u64) -> bool
+pub fn plain_fresh(list: &[Sent], checkpoint: u64, packet: u64) -> bool
     requires { InOrder packet_of list.now }
-    ensures { result ≡ fresh_q from packet list.now }
+    ensures { result ≡ fresh_q checkpoint packet list.now }
 {
-    item_fresh(list, SystemItem::Sequence, from, packet)
+    item_fresh(list, SystemItem::Sequence, checkpoint, packet)
 }

@@ -12,30 +12,30 @@ use jm_wire::Octets;
 
 /// The number of Chapter V's octets in the journal of this packet: 1, or 0 where it isn't there.
 ///
-/// The list is the session's history, and may go past the packet. `from` is the journal's checkpoint.
+/// The list is the session's history, and may go past the packet. `checkpoint` is the journal's.
 #[tactic(auto, unfolding(crate::specs::ChapterV::chapter_v))]
-pub fn plain_len(list: &[Sent], from: u64, packet: u64, tick: u64) -> usize
+pub fn plain_len(list: &[Sent], checkpoint: u64, packet: u64, tick: u64) -> usize
     requires { InOrder packet_of list.now }
-    ensures number { result ≡ length (chapter_v from packet list.now) }
+    ensures number { result ≡ length (chapter_v checkpoint packet list.now) }
     ensures bound { result ≤ 1 }
 {
     let _ = tick;
-    match coded_place(list, SystemItem::Sensing, from, packet) {
+    match coded_place(list, SystemItem::Sensing, checkpoint, packet) {
         None => 0,
         Some(_) => 1,
     }
 }
 
-/// Appends Chapter V for the journal of this packet: Active Sensing, where the packets from `from` on brought it,
+/// Appends Chapter V for the journal of this packet: Active Sensing, where the packets from the checkpoint on brought it,
 /// and how often the session has sent it. `tick` is the packet's, in units of 100 microseconds.
 #[tactic(auto, unfolding(crate::specs::ChapterV::chapter_v))]
-pub fn plain_write(list: &[Sent], from: u64, packet: u64, tick: u64, out: &mut Octets)
+pub fn plain_write(list: &[Sent], checkpoint: u64, packet: u64, tick: u64, out: &mut Octets)
     requires order { InOrder packet_of list.now }
-    requires spare { length (chapter_v from packet list.now) ≤ out.old.spare }
-    ensures { Appends out.old out.new (chapter_v from packet list.now) }
+    requires spare { length (chapter_v checkpoint packet list.now) ≤ out.old.spare }
+    ensures { Appends out.old out.new (chapter_v checkpoint packet list.now) }
 {
     let _ = tick;
-    if let Some(place) = coded_place(list, SystemItem::Sensing, from, packet) {
+    if let Some(place) = coded_place(list, SystemItem::Sensing, checkpoint, packet) {
         let count = item_count(session_history(list, packet), SystemItem::Sensing);
         out.push(place.s_bit(packet) + count);
     }
@@ -43,9 +43,9 @@ pub fn plain_write(list: &[Sent], from: u64, packet: u64, tick: u64, out: &mut O
 
 /// Whether the chapter's S is 0: its command is of the packet before.
 #[tactic(auto, unfolding(crate::specs::ChapterV::fresh_v))]
-pub fn plain_fresh(list: &[Sent], from: u64, packet: u64) -> bool
+pub fn plain_fresh(list: &[Sent], checkpoint: u64, packet: u64) -> bool
     requires { InOrder packet_of list.now }
-    ensures { result ≡ fresh_v from packet list.now }
+    ensures { result ≡ fresh_v checkpoint packet list.now }
 {
-    item_fresh(list, SystemItem::Sensing, from, packet)
+    item_fresh(list, SystemItem::Sensing, checkpoint, packet)
 }

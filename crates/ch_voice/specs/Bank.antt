@@ -1,4 +1,5 @@
--- The bank of a channel, told from all commands since the last Reset State command (RFC 6295, A.2).
+-- The bank of a channel, told from all commands since the last Reset State command (RFC 6295, A.2). That a Control 32 which stands
+-- before the Control 0 counts is this project's own.
 use Rattle.std.specs.Prelude.{ℕ, ◌+◌, Bool, true, false, List, [], ◌∷◌, Option, Some, None, if◌then◌else◌}
 use Rattle.jm_cmds.specs.declared.history.Sent.{Sent}
 use Rattle.ch_voice.specs.declared.events.ProgramEvent.{ProgramEvent}
@@ -19,7 +20,7 @@ bank_after bank SetBack = record bank { set_back = true }
 bank_after bank Reset = no_bank
 bank_after bank Other = bank
 
-abbrev pub bank_step : ℕ → Bank → Sent → Bank
+abbrev pub bank_step : (channel : ℕ) → Bank → Sent → Bank
 bank_step channel bank place = bank_after bank (program_at channel place)
 
 -- ## Its octets

@@ -20,8 +20,8 @@ program_after kept SetBack bank fresh recent = kept
 program_after kept Reset bank fresh recent = None
 program_after kept Other bank fresh recent = kept
 
-abbrev pub program_step : (channel from packet : ℕ) → Option ProgramLog → Banked → Option ProgramLog
-program_step channel from packet kept place = program_after kept (banked_event channel place) place.0 (is_fresh packet place.1) (nat_le from (banked_packet place))
+abbrev pub program_step : (channel checkpoint packet : ℕ) → Option ProgramLog → Banked → Option ProgramLog
+program_step channel checkpoint packet kept place = program_after kept (banked_event channel place) place.0 (is_fresh packet place.1) (nat_le checkpoint (banked_packet place))
 
 -- its octets
 abbrev pub program_text : Option ProgramLog → List ℕ

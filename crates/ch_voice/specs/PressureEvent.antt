@@ -7,12 +7,12 @@ use Rattle.jm_cmds.specs.Control.{ends_notes, ends_controllers}
 use Rattle.ch_voice.specs.declared.events.PressureEvent.{PressureEvent}
 use Rattle.ch_voice.specs.declared.events.PressureEvent.TheVariants.{Pressed, Cleared, Other}
 
-abbrev pub pressure_event : ℕ → Command → PressureEvent
+abbrev pub pressure_event : (channel : ℕ) → Command → PressureEvent
 pressure_event channel (Pressure at value) = if at == channel then Pressed value else Other
 pressure_event channel command = if ends_notes channel command || ends_controllers channel command then Cleared else Other
 
 -- the event of a place of the history
-abbrev pub pressure_at : ℕ → Sent → PressureEvent
+abbrev pub pressure_at : (channel : ℕ) → Sent → PressureEvent
 pressure_at channel place = pressure_event channel place.command
 
 -- whether it tells the pressure
@@ -28,5 +28,5 @@ ends_pressure Cleared = true
 ends_pressure Other = false
 
 -- what ends what: the last pressure that is N-active and C-active stands
-abbrev pub pressure_ends : ℕ → Sent → Sent → Bool
+abbrev pub pressure_ends : (channel : ℕ) → Sent → Sent → Bool
 pressure_ends channel place later = is_pressed (pressure_at channel place) && ends_pressure (pressure_at channel later)

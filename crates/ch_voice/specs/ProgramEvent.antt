@@ -8,19 +8,19 @@ use Rattle.ch_voice.specs.declared.events.ProgramEvent.{ProgramEvent}
 use Rattle.ch_voice.specs.declared.events.ProgramEvent.TheVariants.{Chosen, BankHigh, BankLow, SetBack, Reset, Other}
 
 -- what a controller of the channel means
-abbrev pub bank_event : ℕ → ℕ → ProgramEvent
+abbrev pub bank_event : (number value : ℕ) → ProgramEvent
 bank_event number value =
     if number == 0 then BankHigh value
     else (if number == 32 then BankLow value
     else (if number == 121 then SetBack else Other))
 
-abbrev pub program_event : ℕ → Command → ProgramEvent
+abbrev pub program_event : (channel : ℕ) → Command → ProgramEvent
 program_event channel (Program at program) = if at == channel then Chosen program else Other
 program_event channel (Control at number value) = if at == channel then bank_event number value else Other
 program_event channel command = if is_reset command then Reset else Other
 
 -- the event of a place of the history
-abbrev pub program_at : ℕ → Sent → ProgramEvent
+abbrev pub program_at : (channel : ℕ) → Sent → ProgramEvent
 program_at channel place = program_event channel place.command
 
 -- whether it chooses a program

@@ -13,7 +13,7 @@ use Rattle.ch_voice.specs.Bank.{no_bank, bank_step}
 use Rattle.ch_voice.specs.ChapterP.{Banked, banked_event, banked_packet, program_ends, chapter_p, fresh_p, program_octets, program_log}
 use Rattle.ch_voice.specs.KeptProgram.{program_after, program_of, program_step, program_text, program_fresh}
 
-passes : (kept : Option ProgramLog) (event : ProgramEvent) (bank : Bank) (fresh recent : Bool) → ends_program event ≡ false → program_after kept event bank fresh recent ≡ kept
+pub passes : (kept : Option ProgramLog) (event : ProgramEvent) (bank : Bank) (fresh recent : Bool) → ends_program event ≡ false → program_after kept event bank fresh recent ≡ kept
 passes kept (Chosen program) bank fresh recent h = cc
 passes kept (BankHigh value) bank fresh recent h = refl
 passes kept (BankLow value) bank fresh recent h = refl
@@ -76,11 +76,11 @@ touching Reset h = cc
 touching Other h = cc
 
 -- a place's octets, where it is of a packet from the checkpoint on
-abbrev recent_log : (channel from packet : ℕ) → Banked → List ℕ
-recent_log channel from packet place = cond (leb from (banked_packet place)) (program_log channel packet place) []
+abbrev recent_log : (channel checkpoint packet : ℕ) → Banked → List ℕ
+recent_log channel checkpoint packet place = cond (leb checkpoint (banked_packet place)) (program_log channel packet place) []
 
-abbrev recent_fresh : (channel from packet : ℕ) → Banked → Bool
-recent_fresh channel from packet place = leb from (banked_packet place) && (is_chosen (banked_event channel place) && is_fresh packet place.1)
+abbrev recent_fresh : (channel checkpoint packet : ℕ) → Banked → Bool
+recent_fresh channel checkpoint packet place = leb checkpoint (banked_packet place) && (is_chosen (banked_event channel place) && is_fresh packet place.1)
 
 abbrev item_of : ℕ → Banked → Bool
 item_of channel place = is_chosen (banked_event channel place)
@@ -88,35 +88,35 @@ item_of channel place = is_chosen (banked_event channel place)
 abbrev ends_of : ℕ → Banked → Bool
 ends_of channel place = ends_program (banked_event channel place)
 
-keeps_program : (channel from packet : ℕ) → KeepsLast (item_of channel) (ends_of channel) (program_step channel from packet) program_text (recent_log channel from packet)
-keeps_program channel from packet = record {
-  passes = λ s x h. passes s (banked_event channel x) x.0 (is_fresh packet x.1) (leb from (banked_packet x)) h;
-  takes = λ s x h. takes s (banked_event channel x) x.0 (is_fresh packet x.1) (leb from (banked_packet x)) h;
-  silent = λ x h. silent (s_of (is_fresh packet x.1)) x.0 (banked_event channel x) (leb from (banked_packet x)) h;
+keeps_program : (channel checkpoint packet : ℕ) → KeepsLast (item_of channel) (ends_of channel) (program_step channel checkpoint packet) program_text (recent_log channel checkpoint packet)
+keeps_program channel checkpoint packet = record {
+  passes = λ s x h. passes s (banked_event channel x) x.0 (is_fresh packet x.1) (leb checkpoint (banked_packet x)) h;
+  takes = λ s x h. takes s (banked_event channel x) x.0 (is_fresh packet x.1) (leb checkpoint (banked_packet x)) h;
+  silent = λ x h. silent (s_of (is_fresh packet x.1)) x.0 (banked_event channel x) (leb checkpoint (banked_packet x)) h;
   touching = λ x h. touching (banked_event channel x) h;
 }
 
-keeps_program_fresh : (channel from packet : ℕ) → KeepsLast (item_of channel) (ends_of channel) (program_step channel from packet) (λ s. mark (program_fresh s)) (λ x. mark (recent_fresh channel from packet x))
-keeps_program_fresh channel from packet = record {
-  passes = λ s x h. passes s (banked_event channel x) x.0 (is_fresh packet x.1) (leb from (banked_packet x)) h;
-  takes = λ s x h. ap mark (takes_fresh s (banked_event channel x) x.0 (is_fresh packet x.1) (leb from (banked_packet x)) h);
-  silent = λ x h. silent_fresh (banked_event channel x) (is_fresh packet x.1) (leb from (banked_packet x)) h;
+keeps_program_fresh : (channel checkpoint packet : ℕ) → KeepsLast (item_of channel) (ends_of channel) (program_step channel checkpoint packet) (λ s. mark (program_fresh s)) (λ x. mark (recent_fresh channel checkpoint packet x))
+keeps_program_fresh channel checkpoint packet = record {
+  passes = λ s x h. passes s (banked_event channel x) x.0 (is_fresh packet x.1) (leb checkpoint (banked_packet x)) h;
+  takes = λ s x h. ap mark (takes_fresh s (banked_event channel x) x.0 (is_fresh packet x.1) (leb checkpoint (banked_packet x)) h);
+  silent = λ x h. silent_fresh (banked_event channel x) (is_fresh packet x.1) (leb checkpoint (banked_packet x)) h;
   touching = λ x h. touching (banked_event channel x) h;
 }
 
 -- the places of the session history, each with the bank before it, leave the program that the chapter codes
-pub chapter_p-kept : (channel from packet : ℕ) (sent : List Sent) →
-    program_text (fold (program_step channel from packet) None (scanned (bank_step channel) no_bank (below packet_of packet sent))) ≡ chapter_p channel from packet sent
+pub chapter_p-kept : (channel checkpoint packet : ℕ) (sent : List Sent) →
+    program_text (fold (program_step channel checkpoint packet) None (scanned (bank_step channel) no_bank (below packet_of packet sent))) ≡ chapter_p channel checkpoint packet sent
 unfolding chapter_p
-chapter_p-kept channel from packet sent =
+chapter_p-kept channel checkpoint packet sent =
     let places = scanned (bank_step channel) no_bank (below packet_of packet sent) in
-    text-kept (item_of channel) (ends_of channel) (program_step channel from packet) program_text (recent_log channel from packet) (keeps_program channel from packet) None places refl
-    ∙ sym (flat_map-since banked_packet from (program_log channel packet) (standing (program_ends channel) places))
+    text-kept (item_of channel) (ends_of channel) (program_step channel checkpoint packet) program_text (recent_log channel checkpoint packet) (keeps_program channel checkpoint packet) None places refl
+    ∙ sym (flat_map-since banked_packet checkpoint (program_log channel packet) (standing (program_ends channel) places))
 
-pub fresh_p-kept : (channel from packet : ℕ) (sent : List Sent) →
-    program_fresh (fold (program_step channel from packet) None (scanned (bank_step channel) no_bank (below packet_of packet sent))) ≡ fresh_p channel from packet sent
+pub fresh_p-kept : (channel checkpoint packet : ℕ) (sent : List Sent) →
+    program_fresh (fold (program_step channel checkpoint packet) None (scanned (bank_step channel) no_bank (below packet_of packet sent))) ≡ fresh_p channel checkpoint packet sent
 unfolding fresh_p
-fresh_p-kept channel from packet sent =
+fresh_p-kept channel checkpoint packet sent =
     let places = scanned (bank_step channel) no_bank (below packet_of packet sent) in
-    fresh-kept (item_of channel) (ends_of channel) (program_step channel from packet) program_fresh (recent_fresh channel from packet) (keeps_program_fresh channel from packet) None places refl
-    ∙ sym (any-since banked_packet from (λ place. is_chosen (banked_event channel place) && is_fresh packet place.1) (standing (program_ends channel) places))
+    fresh-kept (item_of channel) (ends_of channel) (program_step channel checkpoint packet) program_fresh (recent_fresh channel checkpoint packet) (keeps_program_fresh channel checkpoint packet) None places refl
+    ∙ sym (any-since banked_packet checkpoint (λ place. is_chosen (banked_event channel place) && is_fresh packet place.1) (standing (program_ends channel) places))

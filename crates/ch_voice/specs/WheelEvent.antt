@@ -7,12 +7,12 @@ use Rattle.jm_cmds.specs.Control.{ends_controllers}
 use Rattle.ch_voice.specs.declared.events.WheelEvent.{WheelEvent}
 use Rattle.ch_voice.specs.declared.events.WheelEvent.TheVariants.{Moved, Cleared, Other}
 
-abbrev pub wheel_event : ℕ → Command → WheelEvent
+abbrev pub wheel_event : (channel : ℕ) → Command → WheelEvent
 wheel_event channel (Wheel at first second) = if at == channel then Moved first second else Other
 wheel_event channel command = if ends_controllers channel command then Cleared else Other
 
 -- the event of a place of the history
-abbrev pub wheel_at : ℕ → Sent → WheelEvent
+abbrev pub wheel_at : (channel : ℕ) → Sent → WheelEvent
 wheel_at channel place = wheel_event channel place.command
 
 -- whether it moves the wheel
@@ -28,5 +28,5 @@ ends_wheel Cleared = true
 ends_wheel Other = false
 
 -- what ends what: the last move of the wheel that is C-active stands
-abbrev pub wheel_ends : ℕ → Sent → Sent → Bool
+abbrev pub wheel_ends : (channel : ℕ) → Sent → Sent → Bool
 wheel_ends channel place later = is_moved (wheel_at channel place) && ends_wheel (wheel_at channel later)

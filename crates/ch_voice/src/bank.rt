@@ -1,4 +1,4 @@
-//! The bank of a channel (RFC 6295, A.2).
+//! The bank of a channel.
 
 ghost use Rattle.std.specs.Prelude.{◌≡◌};
 ghost use Rattle.ch_voice.specs.Bank.{no_bank, bank_after, high_octet, low_octet};
@@ -6,15 +6,16 @@ ghost use Rattle.ch_voice.specs.Bank.{no_bank, bank_after, high_octet, low_octet
 use crate::events::ProgramEvent;
 use jm_cmds::D7;
 
-/// The bank that the commands since the last Reset State command left.
+/// The bank that the commands since the last Reset State command left (RFC 6295, A.2). That a Control 32
+/// counts which stands before the Control 0 is this project's own.
 #[derive(Debug, Drop)]
-pub(crate) struct Bank {
-    /// The last Control 0.
-    pub(crate) high: Option<D7>,
-    /// The last Control 32.
-    pub(crate) low: Option<D7>,
-    /// Whether a Control 121 came after that Control 0.
-    pub(crate) set_back: bool,
+pub struct Bank {
+    /// The last Control 0: BANK-MSB.
+    pub high: Option<D7>,
+    /// The last Control 32: BANK-LSB.
+    pub low: Option<D7>,
+    /// Whether a Control 121 came after that Control 0: X.
+    pub set_back: bool,
 }
 
 impl Bank {

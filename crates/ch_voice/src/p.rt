@@ -52,8 +52,13 @@ fn program_after(
 
 /// What stands of the program behind these places, of packets from the checkpoint on. The bank is told
 /// from all places.
-fn kept_program(places: &[Sent], channel: Channel, from: u64, packet: u64) -> Option<ProgramLog>
-    ensures { result ≡ fold (program_step channel from packet) None (scanned (bank_step channel) no_bank places.now) }
+fn kept_program(
+    places: &[Sent],
+    channel: Channel,
+    checkpoint: u64,
+    packet: u64,
+) -> Option<ProgramLog>
+    ensures { result ≡ fold (program_step channel checkpoint packet) None (scanned (bank_step channel) no_bank places.now) }
 {
     let mut bank = Bank::none();
     let mut kept = None;
@@ -65,7 +70,7 @@ fn kept_program(places: &[Sent], channel: Channel, from: u64, packet: u64) -> Op
             &event,
             &bank,
             place.is_fresh(packet),
-            from <= place.packet,
+            checkpoint <= place.packet,
         );
         bank.add(&event);
         rest = later;
@@ -74,55 +79,55 @@ fn kept_program(places: &[Sent], channel: Channel, from: u64, packet: u64) -> Op
 }
 
 /// The log of the chapter, if there is one.
-fn program_log(list: &[Sent], channel: Channel, from: u64, packet: u64) -> Option<ProgramLog>
+fn program_log(list: &[Sent], channel: Channel, checkpoint: u64, packet: u64) -> Option<ProgramLog>
     requires { InOrder packet_of list.now }
-    ensures octets { program_text result ≡ chapter_p channel from packet list.now }
-    ensures fresh { program_fresh result ≡ fresh_p channel from packet list.now }
+    ensures octets { program_text result ≡ chapter_p channel checkpoint packet list.now }
+    ensures fresh { program_fresh result ≡ fresh_p channel checkpoint packet list.now }
 {
-    kept_program(session_history(list, packet), channel, from, packet)
+    kept_program(session_history(list, packet), channel, checkpoint, packet)
 }
 
 /// The number of Chapter P's octets in the journal of this packet: 3, or 0 where no program is coded.
 ///
-/// The list is the session's history, and may go past the packet. `from` is the journal's checkpoint.
-pub fn plain_len(list: &[Sent], channel: Channel, from: u64, packet: u64, tick: u64) -> usize
+/// The list is the session's history, and may go past the packet. `checkpoint` is the journal's.
+pub fn plain_len(list: &[Sent], channel: Channel, checkpoint: u64, packet: u64, tick: u64) -> usize
     requires { InOrder packet_of list.now }
-    ensures number { result ≡ length (chapter_p channel from packet list.now) }
+    ensures number { result ≡ length (chapter_p channel checkpoint packet list.now) }
     ensures bound { result ≤ 3 }
 {
     let _ = tick;
-    match program_log(list, channel, from, packet) {
+    match program_log(list, channel, checkpoint, packet) {
         None => 0,
         Some(_) => 3,
     }
 }
 
 /// Appends Chapter P of this channel for the journal of this packet: the last Program of the packets from
-/// `from` on, where it is active, with the bank that the whole session left before it.
+/// the checkpoint on, where it is active, with the bank that the whole session left before it.
 pub fn plain_write(
     list: &[Sent],
     channel: Channel,
-    from: u64,
+    checkpoint: u64,
     packet: u64,
     tick: u64,
     out: &mut Octets,
 )
     requires order { InOrder packet_of list.now }
-    requires spare { length (chapter_p channel from packet list.now) ≤ out.old.spare }
-    ensures { Appends out.old out.new (chapter_p channel from packet list.now) }
+    requires spare { length (chapter_p channel checkpoint packet list.now) ≤ out.old.spare }
+    ensures { Appends out.old out.new (chapter_p channel checkpoint packet list.now) }
 {
     let _ = tick;
-    if let Some(log) = program_log(list, channel, from, packet) {
+    if let Some(log) = program_log(list, channel, checkpoint, packet) {
         log.write(out);
     }
 }
 
 /// Whether the S bit of the chapter is 0: its Program is of the packet before.
-pub fn plain_fresh(list: &[Sent], channel: Channel, from: u64, packet: u64) -> bool
+pub fn plain_fresh(list: &[Sent], channel: Channel, checkpoint: u64, packet: u64) -> bool
     requires { InOrder packet_of list.now }
-    ensures { result ≡ fresh_p channel from packet list.now }
+    ensures { result ≡ fresh_p channel checkpoint packet list.now }
 {
-    match program_log(list, channel, from, packet) {
+    match program_log(list, channel, checkpoint, packet) {
         None => false,
         Some(log) => log.fresh,
     }

@@ -8,4 +8,4 @@ pub returns : goal.returns
 returns c =
     let a = c.args in
     ap (λ (s : Shape). s.fresh) c.shape_of.ensures.notes
-    ∙ sym (fresh_n-standing a.channel a.from a.packet a.list.now c.checkpoint_history.result.now (c.checkpoint_history.ensures.coded (note_ends a.channel)))
+    ∙ sym (fresh_n-standing a.channel a.checkpoint a.packet a.list.now c.checkpoint_history.result.now (c.checkpoint_history.ensures.coded (note_ends a.channel)))

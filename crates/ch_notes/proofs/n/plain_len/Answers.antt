@@ -8,4 +8,4 @@ pub returns-clause-number : goal.returns-clause-number
 returns-clause-number c =
     let a = c.args in
     c.len.ensures.number ∙ ap shape_len c.shape_of.ensures.notes
-    ∙ sym (length-chapter_n a.channel a.from a.packet a.tick a.list.now c.checkpoint_history.result.now (c.checkpoint_history.ensures.coded (note_ends a.channel)) c.shape_of.ensures.within)
+    ∙ sym (length-chapter_n a.channel a.checkpoint a.packet a.tick a.list.now c.checkpoint_history.result.now (c.checkpoint_history.ensures.coded (note_ends a.channel)) c.shape_of.ensures.within)

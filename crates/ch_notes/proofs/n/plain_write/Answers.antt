@@ -11,13 +11,13 @@ use Rattle.ch_notes.specs.ChapterLaws.{chapter_n-standing, shaped-bare, shaped-f
 use Rattle.ch_notes.proofs.n.plain_write.Goals as goal
 
 -- the chapter by the shape that was counted
-chapter : (channel from packet tick : ℕ) (sent places : List Sent) (s : Shape) →
-    standing (note_ends channel) places ≡ coded (note_ends channel) packet_of from (below packet_of packet sent) →
+chapter : (channel checkpoint packet tick : ℕ) (sent places : List Sent) (s : Shape) →
+    standing (note_ends channel) places ≡ coded (note_ends channel) packet_of checkpoint (below packet_of packet sent) →
     AreWithin channel (standing (note_ends channel) places) →
     s ≡ counted channel packet no_notes (standing (note_ends channel) places) →
-    chapter_n channel from packet tick sent ≡ shaped s (logs_of channel packet tick places)
-chapter channel from packet tick sent places s e w n =
-    chapter_n-standing channel from packet tick sent places e w
+    chapter_n channel checkpoint packet tick sent ≡ shaped s (logs_of channel packet tick places)
+chapter channel checkpoint packet tick sent places s e w n =
+    chapter_n-standing channel checkpoint packet tick sent places e w
     ∙ ap (λ (k : Shape). shaped k (logs_of channel packet tick places)) (sym n)
 
 room : (whole text : List ℕ) (s : Shape) (spare : ℕ) → whole ≡ shaped s text → is_bare s ≡ false → length whole ≤ spare → 2 + (length text + span s) ≤ spare
@@ -28,16 +28,16 @@ write_parts-requires-clause-spare c =
     let a = c.args in
     let s = c.shape_of-shape.result in
     let places = c.checkpoint_history-places.result.now in
-    let all = chapter a.channel a.from a.packet a.tick a.list.now places s (c.checkpoint_history-places.ensures.coded (note_ends a.channel)) c.shape_of-shape.ensures.within c.shape_of-shape.ensures.notes in
+    let all = chapter a.channel a.checkpoint a.packet a.tick a.list.now places s (c.checkpoint_history-places.ensures.coded (note_ends a.channel)) c.shape_of-shape.ensures.within c.shape_of-shape.ensures.notes in
     let text = logs_of a.channel a.packet a.tick places in
-    room (chapter_n a.channel a.from a.packet a.tick a.list.now) text s a.out.now.spare all (sym c.is_bare.ensures ∙ c.if-not-is_bare.true) c.requires.spare
+    room (chapter_n a.channel a.checkpoint a.packet a.tick a.list.now) text s a.out.now.spare all (sym c.is_bare.ensures ∙ c.if-not-is_bare.true) c.requires.spare
 
 pub returns-then-not-is_bare : goal.returns-then-not-is_bare
 returns-then-not-is_bare c =
     let a = c.args in
     let s = c.shape_of-shape.result in
     let places = c.checkpoint_history-places.result.now in
-    let all = chapter a.channel a.from a.packet a.tick a.list.now places s (c.checkpoint_history-places.ensures.coded (note_ends a.channel)) c.shape_of-shape.ensures.within c.shape_of-shape.ensures.notes in
+    let all = chapter a.channel a.checkpoint a.packet a.tick a.list.now places s (c.checkpoint_history-places.ensures.coded (note_ends a.channel)) c.shape_of-shape.ensures.within c.shape_of-shape.ensures.notes in
     let text = logs_of a.channel a.packet a.tick places in
     subst (λ (t : List ℕ). Appends a.out.now c.write_parts.new.out t)
     (sym (all ∙ shaped-full s text (sym c.is_bare.ensures ∙ c.if-not-is_bare.true))) c.write_parts.ensures
@@ -47,7 +47,7 @@ returns-else-not-is_bare c =
     let a = c.args in
     let s = c.shape_of-shape.result in
     let places = c.checkpoint_history-places.result.now in
-    let all = chapter a.channel a.from a.packet a.tick a.list.now places s (c.checkpoint_history-places.ensures.coded (note_ends a.channel)) c.shape_of-shape.ensures.within c.shape_of-shape.ensures.notes in
+    let all = chapter a.channel a.checkpoint a.packet a.tick a.list.now places s (c.checkpoint_history-places.ensures.coded (note_ends a.channel)) c.shape_of-shape.ensures.within c.shape_of-shape.ensures.notes in
     let text = logs_of a.channel a.packet a.tick places in
     subst (λ (t : List ℕ). Appends a.out.now a.out.now t)
     (sym (all ∙ shaped-bare s text (sym c.is_bare.ensures ∙ c.if-not-is_bare.false))) (unchanged a.out.now)

@@ -5,7 +5,7 @@ use Rattle.ch_param.proofs.logs.count.Given as goal
 
 abbrev pub invariant-loop-behind : goal.invariant-loop-behind
 invariant-loop-behind l = record {
-  counted : l.count + length (entered l.channel l.from (placed l.channel l.selection l.rest)) ≡ length (entered l.channel l.from (session_places l.channel l.history));
+  counted : l.count + length (entered l.channel l.checkpoint (placed l.channel l.selection l.rest)) ≡ length (entered l.channel l.checkpoint (session_places l.channel l.history));
   few : l.count + length l.rest ≤ length l.history;
 }
 

@@ -7,8 +7,8 @@ use Rattle.ch_param.proofs.logs.has.Given as goal
 
 abbrev pub invariant-loop-other : goal.invariant-loop-other
 invariant-loop-other l =
-    list_any (λ (e : Entered). same_param l.param e.param) (entered l.channel l.from (placed l.channel l.selection l.rest))
-    ≡ list_any (λ (e : Entered). same_param l.param e.param) (entered l.channel l.from (session_places l.channel l.history))
+    list_any (λ (e : Entered). same_param l.param e.param) (entered l.channel l.checkpoint (placed l.channel l.selection l.rest))
+    ≡ list_any (λ (e : Entered). same_param l.param e.param) (entered l.channel l.checkpoint (session_places l.channel l.history))
 
 abbrev pub decreases-loop-other : goal.decreases-loop-other
 decreases-loop-other l = length l.rest

@@ -5,8 +5,8 @@ use Rattle.ch_param.proofs.logs.is_fresh.Given as goal
 
 abbrev pub invariant-loop-place : goal.invariant-loop-place
 invariant-loop-place l =
-    fresh_among l.packet (entered l.channel l.from (placed l.channel l.selection l.rest))
-    ≡ fresh_among l.packet (entered l.channel l.from (session_places l.channel l.history))
+    fresh_among l.packet (entered l.channel l.checkpoint (placed l.channel l.selection l.rest))
+    ≡ fresh_among l.packet (entered l.channel l.checkpoint (session_places l.channel l.history))
 
 abbrev pub decreases-loop-place : goal.decreases-loop-place
 decreases-loop-place l = length l.rest

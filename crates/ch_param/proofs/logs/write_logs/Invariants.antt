@@ -8,8 +8,8 @@ use Rattle.ch_param.proofs.logs.write_logs.Given as goal
 abbrev pub invariant-loop-param : goal.invariant-loop-param
 invariant-loop-param l =
     Owes l.initial.out l.out
-    (param_logs l.channel l.from l.packet (session_places l.channel l.history))
-    (flat_map (entered_log l.channel l.from l.packet (session_places l.channel l.history)) (entered l.channel l.from (placed l.channel l.selection l.rest)))
+    (param_logs l.channel l.checkpoint l.packet (session_places l.channel l.history))
+    (flat_map (entered_log l.channel l.checkpoint l.packet (session_places l.channel l.history)) (entered l.channel l.checkpoint (placed l.channel l.selection l.rest)))
 
 abbrev pub decreases-loop-param : goal.decreases-loop-param
 decreases-loop-param l = length l.rest

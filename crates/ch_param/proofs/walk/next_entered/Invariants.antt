@@ -5,7 +5,7 @@ use Rattle.ch_param.proofs.walk.next_entered.Given as goal
 
 abbrev pub invariant-loop-place : goal.invariant-loop-place
 invariant-loop-place l = record {
-  places : entered l.channel l.from (placed l.channel l.selection l.rest) ≡ entered l.channel l.from (placed l.channel l.before l.places);
+  places : entered l.channel l.checkpoint (placed l.channel l.selection l.rest) ≡ entered l.channel l.checkpoint (placed l.channel l.before l.places);
   fewer : length l.rest ≤ length l.places;
 }
 

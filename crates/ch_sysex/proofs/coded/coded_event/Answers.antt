@@ -3,8 +3,8 @@ use Rattle.ch_sysex.proofs.coded.coded_event.Goals as goal
 
 pub returns-then-is_ended : goal.returns-then-is_ended
 returns-then-is_ended c =
-    coded-ended c.args.from c.args.place.now c.args.later.now c.sysex_event-event.result c.is_ended.result c.sysex_event-event.ensures c.is_ended.ensures c.if-is_ended.true
+    coded-ended c.args.checkpoint c.args.place.now c.args.later.now c.sysex_event-event.result c.is_ended.result c.sysex_event-event.ensures c.is_ended.ensures c.if-is_ended.true
 
 pub returns : goal.returns
 returns c =
-    coded-left c.args.from c.args.place.now c.args.later.now c.sysex_event-event.result c.is_ended.result c.sysex_event-event.ensures c.is_ended.ensures c.if-is_ended.false c.if-place-from.false
+    coded-left c.args.checkpoint c.args.place.now c.args.later.now c.sysex_event-event.result c.is_ended.result c.sysex_event-event.ensures c.is_ended.ensures c.if-is_ended.false c.if-place-checkpoint.false

@@ -7,13 +7,13 @@ use Rattle.ch_sysex.proofs.x.room_of.Goals.{then-is_logged, else-is_logged}
 
 pub loop-place-preserved : goal.loop-place-preserved
 loop-place-preserved c =
-    let from = c.args.from in
+    let checkpoint = c.args.checkpoint in
     let place = c.in-Some.place.now in
     let rest = c.loop-place.rest.now in
     let later = c.in-Some.later.now in
     let event = c.coded_event-event.result in
-    let logs = logs_more from c.loop-place.logs (count_by has_log (coded_sysex from c.args.places.now)) c.is_logged.result event place rest later c.loop-place.invariant.0 c.in-Some.ensures c.coded_event-event.ensures c.is_logged.ensures in
-    let octets = octets_more from c.event_len.result event c.data_of.result.now place rest later c.in-Some.ensures c.coded_event-event.ensures c.data_of.ensures.octets c.event_len.ensures.number in
+    let logs = logs_more checkpoint c.loop-place.logs (count_by has_log (coded_sysex checkpoint c.args.places.now)) c.is_logged.result event place rest later c.loop-place.invariant.0 c.in-Some.ensures c.coded_event-event.ensures c.is_logged.ensures in
+    let octets = octets_more checkpoint c.event_len.result event c.data_of.result.now place rest later c.in-Some.ensures c.coded_event-event.ensures c.data_of.ensures.octets c.event_len.ensures.number in
     let size = ap length c.in-Some.ensures in
     elim c.if-is_logged.branch [
       | then-is_logged w ↦ (rw (w.logs-is) (rw w.if-is_logged.true at logs), omega (arith, octets), omega arith, omega arith)

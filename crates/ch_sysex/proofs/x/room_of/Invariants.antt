@@ -5,8 +5,8 @@ use Rattle.ch_sysex.proofs.x.room_of.Given as goal
 
 abbrev pub invariant-loop-place : goal.invariant-loop-place
 invariant-loop-place l =
-    (l.logs + count_by has_log (coded_sysex l.from l.rest) ≡ count_by has_log (coded_sysex l.from l.places))
-    × (min (l.octets + sum_by log_len (coded_sysex l.from l.rest)) (2 ^ 64 - 1) ≡ min (sum_by log_len (coded_sysex l.from l.places)) (2 ^ 64 - 1))
+    (l.logs + count_by has_log (coded_sysex l.checkpoint l.rest) ≡ count_by has_log (coded_sysex l.checkpoint l.places))
+    × (min (l.octets + sum_by log_len (coded_sysex l.checkpoint l.rest)) (2 ^ 64 - 1) ≡ min (sum_by log_len (coded_sysex l.checkpoint l.places)) (2 ^ 64 - 1))
     × (l.logs + length l.rest ≤ length l.places)
     × (l.octets ≤ 2 ^ 64 - 1)
 

@@ -7,8 +7,8 @@ use Rattle.ch_sysex.proofs.x.write_logs.Given as goal
 abbrev pub invariant-loop-place : goal.invariant-loop-place
 invariant-loop-place l =
     Owes l.initial.out l.out
-    (flat_map (sysex_log l.packet) (coded_counted l.from 0 l.places))
-    (flat_map (sysex_log l.packet) (coded_counted l.from l.count l.rest))
+    (flat_map (sysex_log l.packet) (coded_counted l.checkpoint 0 l.places))
+    (flat_map (sysex_log l.packet) (coded_counted l.checkpoint l.count l.rest))
     × (l.count + length l.rest ≤ length l.places)
 
 abbrev pub decreases-loop-place : goal.decreases-loop-place

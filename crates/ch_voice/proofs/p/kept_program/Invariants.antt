@@ -6,8 +6,8 @@ use Rattle.ch_voice.proofs.p.kept_program.Given as goal
 
 abbrev pub invariant-loop-place : goal.invariant-loop-place
 invariant-loop-place l =
-    fold (program_step l.channel l.from l.packet) l.kept (scanned (bank_step l.channel) l.bank l.rest)
-    ≡ fold (program_step l.channel l.from l.packet) None (scanned (bank_step l.channel) no_bank l.places)
+    fold (program_step l.channel l.checkpoint l.packet) l.kept (scanned (bank_step l.channel) l.bank l.rest)
+    ≡ fold (program_step l.channel l.checkpoint l.packet) None (scanned (bank_step l.channel) no_bank l.places)
 
 abbrev pub decreases-loop-place : goal.decreases-loop-place
 decreases-loop-place l = length l.rest

@@ -1,0 +1,6 @@
+use Rattle.ch_voice.specs.TableLaws.{pressure_push}
+use Rattle.ch_voice.proofs.pressure_table.PressureTable.note.Goals as goal
+
+pub returns-clause-stands : goal.returns-clause-stands
+returns-clause-stands c = λ channel from sent e h l.
+    rw (c.change.ensures, c.pressure_event.ensures, c.own_channel.ensures, e) (pressure_push channel from c.args.packet c.args.tick c.args.command.now sent h l)

@@ -1,0 +1,6 @@
+use Rattle.ch_voice.specs.TableLaws.{program_push}
+use Rattle.ch_voice.proofs.program_table.ProgramTable.note.Goals as goal
+
+pub returns-clause-stands : goal.returns-clause-stands
+returns-clause-stands c = λ channel from sent e h l.
+    rw (c.change.ensures, c.program_event.ensures, c.own_channel.ensures, e) (program_push channel from c.args.packet c.args.tick c.args.command.now sent h l)

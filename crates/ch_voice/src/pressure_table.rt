@@ -1,0 +1,163 @@
+//! The table of Chapter T.
+
+ghost use Rattle.std.specs.Prelude.{ℕ, ◌≡◌, ◌+◌, ◌<◌, ◌≤◌, List, [], ◌∷◌, ◌++◌, length};
+ghost use Rattle.std.specs.List.{list_any, AllByRecursion};
+ghost use Rattle.jm_wire.specs.Octets.{Appends};
+ghost use Rattle.jm_cmds.specs.declared.history.Sent.{Sent};
+ghost use Rattle.jm_cmds.specs.Channels.{own_channel, IsForChannel};
+ghost use Rattle.jm_cmds.specs.KeptItem.{kept_fresh, kept_since};
+ghost use Rattle.jm_cmds.specs.Sent.{packet_of};
+ghost use Rattle.ch_voice.specs.PressureEvent.{pressure_event};
+ghost use Rattle.ch_voice.specs.ChapterT.{chapter_t, fresh_t};
+ghost use Rattle.ch_voice.specs.PressureTable.{pressure_kept, pressure_noted, pressure_text};
+
+use crate::events::{PressureEvent, pressure_event};
+use crate::t::{log_len, write_log};
+use jm_cmds::{Command, is_packet_before, s_of};
+use jm_wire::Octets;
+use std::marker::Model;
+
+/// What Chapter T needs of a channel's history since the checkpoint: the pressure that is coded.
+///
+/// The plain functions of [`crate::t`] tell the same of a list of all commands. A table serves one channel;
+/// each call takes constant time and no memory.
+#[derive(Debug, Drop)]
+pub struct PressureTable {
+    /// The packet and the pressure.
+    kept: Option<(u64, PressureEvent)>,
+}
+
+impl Model for PressureTable {
+    ghost use Rattle.std.specs.Prelude.{List, ℕ};
+    ghost use Rattle.std.specs.Option.{option_to_list};
+    ghost use Rattle.ch_voice.specs.declared.events.PressureEvent.{PressureEvent as Pressing};
+
+    ghost Value = { List (ℕ × Pressing) };
+
+    ghost view = { λ t. option_to_list t.kept };
+}
+
+impl PressureTable {
+    /// The table of no command, with checkpoint 0.
+    pub fn new() -> Self
+        ensures empty { result ≡ [] }
+        ensures stands { (channel : ℕ) → result ≡ pressure_kept channel 0 [] }
+    {
+        PressureTable { kept: None }
+    }
+
+    /// Notes one command more: it is of the table's channel or of none, and goes out in this packet, which
+    /// isn't before the checkpoint. `tick` isn't looked at; each table takes it.
+    pub fn note(&mut self, command: &Command, packet: u64, tick: u64)
+        ensures change { self.new ≡ pressure_noted (pressure_event (own_channel command.now) command.now) packet self.old }
+        ensures stands { (channel from : ℕ) (sent : List Sent) → self.old ≡ pressure_kept channel from sent
+            → IsForChannel channel command.now → from ≤ packet
+            → self.new ≡ pressure_kept channel from (sent ++ record { packet = packet; tick = tick; command = command.now } ∷ []) }
+    {
+        let _ = tick;
+        self.change(pressure_event(command, command.own_channel()), packet);
+    }
+
+    /// One event more.
+    fn change(&mut self, event: PressureEvent, packet: u64)
+        ensures { self.new ≡ pressure_noted event packet self.old }
+    {
+        match event {
+            PressureEvent::Pressed { .. } => self.kept = Some((packet, event)),
+            PressureEvent::Cleared => self.kept = None,
+            PressureEvent::Other => {}
+        }
+    }
+
+    /// Sets the checkpoint to this packet, which isn't before the present one.
+    pub fn trim(&mut self, packet: u64)
+        ensures change { self.new ≡ kept_since packet self.old }
+        ensures stands { (channel from : ℕ) (sent : List Sent) → self.old ≡ pressure_kept channel from sent
+            → from ≤ packet → self.new ≡ pressure_kept channel packet sent }
+    {
+        self.cut(packet);
+    }
+
+    /// Lets go what is of a packet before this one.
+    fn cut(&mut self, packet: u64)
+        ensures { self.new ≡ kept_since packet self.old }
+    {
+        if let Some((sent_in, _)) = self.kept {
+            if sent_in < packet {
+                self.kept = None;
+            }
+        }
+    }
+
+    /// The number of Chapter T's octets in the journal of this packet, which is past each noted one: 1, or 0
+    /// where the pressure isn't coded.
+    pub fn len(&self, packet: u64, tick: u64) -> usize
+        ensures number { result ≡ length (pressure_text packet self.now) }
+        ensures bound { result ≤ 1 }
+        ensures stands { (channel from : ℕ) (sent : List Sent) → self.now ≡ pressure_kept channel from sent
+            → AllByRecursion (λ place. packet_of place < packet) sent → result ≡ length (chapter_t channel from packet sent) }
+    {
+        let _ = tick;
+        self.text_len(packet)
+    }
+
+    /// The number of the octets of what is kept.
+    fn text_len(&self, packet: u64) -> usize
+        ensures number { result ≡ length (pressure_text packet self.now) }
+        ensures bound { result ≤ 1 }
+    {
+        let _ = packet;
+        match self.kept {
+            None => 0,
+            Some((_, event)) => log_len(&event),
+        }
+    }
+
+    /// Appends Chapter T for the journal of this packet, which is past each noted one. `out` has room for
+    /// [`PressureTable::len`] octets.
+    pub fn write(&self, packet: u64, tick: u64, out: &mut Octets)
+        requires { length (pressure_text packet self.now) ≤ out.old.spare }
+        ensures text { Appends out.old out.new (pressure_text packet self.now) }
+        ensures stands { (channel from : ℕ) (sent : List Sent) → self.now ≡ pressure_kept channel from sent
+            → AllByRecursion (λ place. packet_of place < packet) sent → Appends out.old out.new (chapter_t channel from packet sent) }
+    {
+        let _ = tick;
+        self.write_text(packet, out);
+    }
+
+    /// Appends the octets of what is kept.
+    fn write_text(&self, packet: u64, out: &mut Octets)
+        requires { length (pressure_text packet self.now) ≤ out.old.spare }
+        ensures { Appends out.old out.new (pressure_text packet self.now) }
+    {
+        if let Some((sent_in, event)) = self.kept {
+            write_log(s_of(is_packet_before(sent_in, packet)), &event, out);
+        }
+    }
+
+    /// Whether the S bit of the chapter in the journal of this packet is 0.
+    pub fn fresh(&self, packet: u64) -> bool
+        ensures test { result ≡ list_any (kept_fresh packet) self.now }
+        ensures stands { (channel from : ℕ) (sent : List Sent) → self.now ≡ pressure_kept channel from sent
+            → AllByRecursion (λ place. packet_of place < packet) sent → result ≡ fresh_t channel from packet sent }
+    {
+        self.is_fresh(packet)
+    }
+
+    /// Whether what is kept is of the packet before.
+    fn is_fresh(&self, packet: u64) -> bool
+        ensures { result ≡ list_any (kept_fresh packet) self.now }
+    {
+        match self.kept {
+            None => false,
+            Some((sent_in, _)) => is_packet_before(sent_in, packet),
+        }
+    }
+
+    /// Makes the content that of `other`.
+    pub fn copy_from(&mut self, other: &Self)
+        ensures { self.new ≡ other.now }
+    {
+        self.kept = other.kept;
+    }
+}
