@@ -17,48 +17,48 @@ abbrev pub is_there : List ℕ → Bool
 is_there octets = nat_lt 0 (length octets)
 
 -- the chapters of a channel, in their order
-unfoldable pub channel_chapters : ℕ → ℕ → ℕ → List Sent → ℕ → List ℕ
-channel_chapters from packet tick sent channel =
-    chapter_p channel from packet sent
-    ++ chapter_c channel from packet sent
-    ++ chapter_m channel from packet sent
-    ++ chapter_w channel from packet sent
-    ++ chapter_n channel from packet tick sent
-    ++ chapter_e channel from packet sent
-    ++ chapter_t channel from packet sent
-    ++ chapter_a channel from packet sent
+unfoldable pub channel_chapters : (checkpoint packet tick : ℕ) → List Sent → (channel : ℕ) → List ℕ
+channel_chapters checkpoint packet tick sent channel =
+    chapter_p channel checkpoint packet sent
+    ++ chapter_c channel checkpoint packet sent
+    ++ chapter_m channel checkpoint packet sent
+    ++ chapter_w channel checkpoint packet sent
+    ++ chapter_n channel checkpoint packet tick sent
+    ++ chapter_e channel checkpoint packet sent
+    ++ chapter_t channel checkpoint packet sent
+    ++ chapter_a channel checkpoint packet sent
 
 -- whether something in them is of the packet before
-unfoldable pub channel_fresh : ℕ → ℕ → List Sent → ℕ → Bool
-channel_fresh from packet sent channel =
-    fresh_p channel from packet sent
-    || fresh_c channel from packet sent
-    || fresh_m channel from packet sent
-    || fresh_w channel from packet sent
-    || fresh_n channel from packet sent
-    || fresh_e channel from packet sent
-    || fresh_t channel from packet sent
-    || fresh_a channel from packet sent
+unfoldable pub channel_fresh : (checkpoint packet : ℕ) → List Sent → (channel : ℕ) → Bool
+channel_fresh checkpoint packet sent channel =
+    fresh_p channel checkpoint packet sent
+    || fresh_c channel checkpoint packet sent
+    || fresh_m channel checkpoint packet sent
+    || fresh_w channel checkpoint packet sent
+    || fresh_n channel checkpoint packet sent
+    || fresh_e channel checkpoint packet sent
+    || fresh_t channel checkpoint packet sent
+    || fresh_a channel checkpoint packet sent
 
 -- the header: its length counts it too
-unfoldable pub channel_head : ℕ → ℕ → ℕ → List Sent → ℕ → ChannelHead
-channel_head from packet tick sent channel = record {
-  s = not (channel_fresh from packet sent channel);
+unfoldable pub channel_head : (checkpoint packet tick : ℕ) → List Sent → (channel : ℕ) → ChannelHead
+channel_head checkpoint packet tick sent channel = record {
+  s = not (channel_fresh checkpoint packet sent channel);
   chan = channel;
   h = false;
-  length = 3 + length (channel_chapters from packet tick sent channel);
-  p = is_there (chapter_p channel from packet sent);
-  c = is_there (chapter_c channel from packet sent);
-  m = is_there (chapter_m channel from packet sent);
-  w = is_there (chapter_w channel from packet sent);
-  n = is_there (chapter_n channel from packet tick sent);
-  e = is_there (chapter_e channel from packet sent);
-  t = is_there (chapter_t channel from packet sent);
-  a = is_there (chapter_a channel from packet sent);
+  length = 3 + length (channel_chapters checkpoint packet tick sent channel);
+  p = is_there (chapter_p channel checkpoint packet sent);
+  c = is_there (chapter_c channel checkpoint packet sent);
+  m = is_there (chapter_m channel checkpoint packet sent);
+  w = is_there (chapter_w channel checkpoint packet sent);
+  n = is_there (chapter_n channel checkpoint packet tick sent);
+  e = is_there (chapter_e channel checkpoint packet sent);
+  t = is_there (chapter_t channel checkpoint packet sent);
+  a = is_there (chapter_a channel checkpoint packet sent);
 }
 
 -- The journal of a channel: nothing where nothing of the channel is coded.
-unfoldable pub channel_journal : ℕ → ℕ → ℕ → List Sent → ℕ → List ℕ
-channel_journal from packet tick sent channel =
-    if length (channel_chapters from packet tick sent channel) == 0 then []
-    else channel_octets (channel_head from packet tick sent channel) ++ channel_chapters from packet tick sent channel
+unfoldable pub channel_journal : (checkpoint packet tick : ℕ) → List Sent → (channel : ℕ) → List ℕ
+channel_journal checkpoint packet tick sent channel =
+    if length (channel_chapters checkpoint packet tick sent channel) == 0 then []
+    else channel_octets (channel_head checkpoint packet tick sent channel) ++ channel_chapters checkpoint packet tick sent channel

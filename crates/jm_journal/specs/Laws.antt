@@ -8,7 +8,7 @@ use Rattle.jm_journal.specs.Limits.{KeepsLimits, fit_of, told}
 
 -- What is coded keeps its limits as commands that fit are sent and the checkpoint goes on.
 pub record KeepsWhatFits : Type 0 where
-  pub nothing : (from : ℕ) → KeepsLimits from []
-  pub one_more : (from : ℕ) (sent : List Sent) (last : Sent) → from ≤ last.packet → fit_of from sent last.command ≡ Yes → KeepsLimits from sent → KeepsLimits from (sent ++ last ∷ [])
-  pub later : (from later : ℕ) (sent : List Sent) → from ≤ later → KeepsLimits from sent → KeepsLimits later sent
-  pub whole : (from : ℕ) (sent : List Sent) (command : Command) → sysex_octets from sent < 2 ^ 64 → told (fit_of from sent command) ≡ fit_of from sent command
+  pub nothing : (checkpoint : ℕ) → KeepsLimits checkpoint []
+  pub one_more : (checkpoint : ℕ) (sent : List Sent) (last : Sent) → checkpoint ≤ last.packet → fit_of checkpoint sent last.command ≡ Yes → KeepsLimits checkpoint sent → KeepsLimits checkpoint (sent ++ last ∷ [])
+  pub later : (checkpoint later : ℕ) (sent : List Sent) → checkpoint ≤ later → KeepsLimits checkpoint sent → KeepsLimits later sent
+  pub whole : (checkpoint : ℕ) (sent : List Sent) (command : Command) → sysex_octets checkpoint sent < 2 ^ 64 → told (fit_of checkpoint sent command) ≡ fit_of checkpoint sent command

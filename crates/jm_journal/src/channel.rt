@@ -34,21 +34,25 @@ impl Lens {
     /// The lengths of a channel's chapters.
     fn of(list: &[Sent], channel: Channel, span: Span) -> Lens
         requires order { InOrder packet_of list.now }
-        requires limits { KeepsLimits span.from (below packet_of span.packet list.now) }
-        ensures octets { AreLens span.from span.packet span.tick list.now channel result }
+        requires limits { KeepsLimits span.checkpoint (below packet_of span.packet list.now) }
+        ensures octets { AreLens span.checkpoint span.packet span.tick list.now channel result }
         ensures short { AreShort result }
     {
         let _ = channel.get();
-        let Span { from, packet, tick } = span;
+        let Span {
+            checkpoint,
+            packet,
+            tick,
+        } = span;
         Lens {
-            p: p::plain_len(list, channel, from, packet, tick),
-            c: c::plain_len(list, channel, from, packet, tick),
-            m: m::plain_len(list, channel, from, packet, tick),
-            w: w::plain_len(list, channel, from, packet, tick),
-            n: n::plain_len(list, channel, from, packet, tick),
-            e: e::plain_len(list, channel, from, packet, tick),
-            t: t::plain_len(list, channel, from, packet, tick),
-            a: a::plain_len(list, channel, from, packet, tick),
+            p: p::plain_len(list, channel, checkpoint, packet, tick),
+            c: c::plain_len(list, channel, checkpoint, packet, tick),
+            m: m::plain_len(list, channel, checkpoint, packet, tick),
+            w: w::plain_len(list, channel, checkpoint, packet, tick),
+            n: n::plain_len(list, channel, checkpoint, packet, tick),
+            e: e::plain_len(list, channel, checkpoint, packet, tick),
+            t: t::plain_len(list, channel, checkpoint, packet, tick),
+            a: a::plain_len(list, channel, checkpoint, packet, tick),
         }
     }
 
@@ -56,7 +60,7 @@ impl Lens {
     fn total(&self) -> usize
         requires { AreShort self.now }
         ensures total { result ≡ lens_total self.now }
-        ensures bound { result ≤ 993 }
+        ensures bound { result ≤ 995 }
     {
         self.p + (self.c + (self.m + (self.w + (self.n + (self.e + (self.t + self.a))))))
     }
@@ -66,29 +70,33 @@ impl Lens {
 #[tactic(auto, unfolding(crate::specs::Channel::channel_fresh))]
 pub(crate) fn is_fresh(list: &[Sent], channel: Channel, span: Span) -> bool
     requires order { InOrder packet_of list.now }
-    requires limits { KeepsLimits span.from (below packet_of span.packet list.now) }
-    ensures { result ≡ channel_fresh span.from span.packet list.now channel }
+    requires limits { KeepsLimits span.checkpoint (below packet_of span.packet list.now) }
+    ensures { result ≡ channel_fresh span.checkpoint span.packet list.now channel }
 {
     let _ = channel.get();
-    let Span { from, packet, .. } = span;
-    p::plain_fresh(list, channel, from, packet)
-        || c::plain_fresh(list, channel, from, packet)
-        || m::plain_fresh(list, channel, from, packet)
-        || w::plain_fresh(list, channel, from, packet)
-        || n::plain_fresh(list, channel, from, packet)
-        || e::plain_fresh(list, channel, from, packet)
-        || t::plain_fresh(list, channel, from, packet)
-        || a::plain_fresh(list, channel, from, packet)
+    let Span {
+        checkpoint,
+        packet,
+        ..
+    } = span;
+    p::plain_fresh(list, channel, checkpoint, packet)
+        || c::plain_fresh(list, channel, checkpoint, packet)
+        || m::plain_fresh(list, channel, checkpoint, packet)
+        || w::plain_fresh(list, channel, checkpoint, packet)
+        || n::plain_fresh(list, channel, checkpoint, packet)
+        || e::plain_fresh(list, channel, checkpoint, packet)
+        || t::plain_fresh(list, channel, checkpoint, packet)
+        || a::plain_fresh(list, channel, checkpoint, packet)
 }
 
 /// The header of a channel journal whose chapters have these lengths.
 #[tactic(auto, unfolding(crate::specs::Channel::channel_head))]
 fn head_of(list: &[Sent], channel: Channel, span: Span, lens: &Lens) -> ChannelHead
     requires order { InOrder packet_of list.now }
-    requires limits { KeepsLimits span.from (below packet_of span.packet list.now) }
-    requires octets { AreLens span.from span.packet span.tick list.now channel lens.now }
+    requires limits { KeepsLimits span.checkpoint (below packet_of span.packet list.now) }
+    requires octets { AreLens span.checkpoint span.packet span.tick list.now channel lens.now }
     requires short { AreShort lens.now }
-    ensures head { result ≡ channel_head span.from span.packet span.tick list.now channel }
+    ensures head { result ≡ channel_head span.checkpoint span.packet span.tick list.now channel }
     ensures fits { FitsChannel result }
 {
     ChannelHead {
@@ -111,28 +119,32 @@ fn head_of(list: &[Sent], channel: Channel, span: Span, lens: &Lens) -> ChannelH
 #[tactic(auto, unfolding(crate::specs::Channel::channel_chapters))]
 fn write_chapters(list: &[Sent], channel: Channel, span: Span, out: &mut Octets)
     requires order { InOrder packet_of list.now }
-    requires limits { KeepsLimits span.from (below packet_of span.packet list.now) }
-    requires spare { length (channel_chapters span.from span.packet span.tick list.now channel) ≤ out.old.spare }
-    ensures { Appends out.old out.new (channel_chapters span.from span.packet span.tick list.now channel) }
+    requires limits { KeepsLimits span.checkpoint (below packet_of span.packet list.now) }
+    requires spare { length (channel_chapters span.checkpoint span.packet span.tick list.now channel) ≤ out.old.spare }
+    ensures { Appends out.old out.new (channel_chapters span.checkpoint span.packet span.tick list.now channel) }
 {
     let _ = channel.get();
-    let Span { from, packet, tick } = span;
-    p::plain_write(list, channel, from, packet, tick, out);
-    c::plain_write(list, channel, from, packet, tick, out);
-    m::plain_write(list, channel, from, packet, tick, out);
-    w::plain_write(list, channel, from, packet, tick, out);
-    n::plain_write(list, channel, from, packet, tick, out);
-    e::plain_write(list, channel, from, packet, tick, out);
-    t::plain_write(list, channel, from, packet, tick, out);
-    a::plain_write(list, channel, from, packet, tick, out);
+    let Span {
+        checkpoint,
+        packet,
+        tick,
+    } = span;
+    p::plain_write(list, channel, checkpoint, packet, tick, out);
+    c::plain_write(list, channel, checkpoint, packet, tick, out);
+    m::plain_write(list, channel, checkpoint, packet, tick, out);
+    w::plain_write(list, channel, checkpoint, packet, tick, out);
+    n::plain_write(list, channel, checkpoint, packet, tick, out);
+    e::plain_write(list, channel, checkpoint, packet, tick, out);
+    t::plain_write(list, channel, checkpoint, packet, tick, out);
+    a::plain_write(list, channel, checkpoint, packet, tick, out);
 }
 
 /// The length of a channel's journal, 0 where nothing of the channel is coded.
 pub(crate) fn channel_len(list: &[Sent], channel: Channel, span: Span) -> usize
     requires order { InOrder packet_of list.now }
-    requires limits { KeepsLimits span.from (below packet_of span.packet list.now) }
-    ensures value { result ≡ length (channel_journal span.from span.packet span.tick list.now channel) }
-    ensures bound { result ≤ 996 }
+    requires limits { KeepsLimits span.checkpoint (below packet_of span.packet list.now) }
+    ensures value { result ≡ length (channel_journal span.checkpoint span.packet span.tick list.now channel) }
+    ensures bound { result ≤ 998 }
 {
     let chapters = Lens::of(list, channel, span).total();
     if chapters == 0 { 0 } else { 3 + chapters }
@@ -141,10 +153,10 @@ pub(crate) fn channel_len(list: &[Sent], channel: Channel, span: Span) -> usize
 /// Appends a channel's journal, nothing where nothing of the channel is coded.
 pub(crate) fn write_channel(list: &[Sent], channel: Channel, span: Span, out: &mut Octets)
     requires order { InOrder packet_of list.now }
-    requires limits { KeepsLimits span.from (below packet_of span.packet list.now) }
-    requires spare { length (channel_journal span.from span.packet span.tick list.now channel) ≤ out.old.spare }
-    ensures written { Appends out.old out.new (channel_journal span.from span.packet span.tick list.now channel) }
-    ensures bound { length (channel_journal span.from span.packet span.tick list.now channel) ≤ 996 }
+    requires limits { KeepsLimits span.checkpoint (below packet_of span.packet list.now) }
+    requires spare { length (channel_journal span.checkpoint span.packet span.tick list.now channel) ≤ out.old.spare }
+    ensures written { Appends out.old out.new (channel_journal span.checkpoint span.packet span.tick list.now channel) }
+    ensures bound { length (channel_journal span.checkpoint span.packet span.tick list.now channel) ≤ 998 }
 {
     let lens = Lens::of(list, channel, span);
     if lens.total() == 0 {

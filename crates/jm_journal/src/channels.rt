@@ -17,8 +17,8 @@ use jm_wire::Octets;
 /// How many channels have a journal.
 pub(crate) fn count_channels(list: &[Sent], span: Span) -> u8
     requires order { InOrder packet_of list.now }
-    requires limits { KeepsLimits span.from (below packet_of span.packet list.now) }
-    ensures value { result ≡ journal_count span.from span.packet span.tick list.now }
+    requires limits { KeepsLimits span.checkpoint (below packet_of span.packet list.now) }
+    ensures value { result ≡ journal_count span.checkpoint span.packet span.tick list.now }
     ensures bound { result ≤ 16 }
 {
     let mut count = 0u8;
@@ -33,10 +33,10 @@ pub(crate) fn count_channels(list: &[Sent], span: Span) -> u8
 /// The length of all channel journals.
 pub(crate) fn channels_len(list: &[Sent], span: Span) -> usize
     requires order { InOrder packet_of list.now }
-    requires limits { KeepsLimits span.from (below packet_of span.packet list.now) }
-    ensures value { result ≡ length (flat_map (channel_journal span.from span.packet span.tick list.now) channels) }
-    ensures bound { result ≤ 15936 }
-    ensures each { (channel : ℕ) → channel < 16 → length (channel_journal span.from span.packet span.tick list.now channel) ≤ 996 }
+    requires limits { KeepsLimits span.checkpoint (below packet_of span.packet list.now) }
+    ensures value { result ≡ length (flat_map (channel_journal span.checkpoint span.packet span.tick list.now) channels) }
+    ensures bound { result ≤ 15968 }
+    ensures each { (channel : ℕ) → channel < 16 → length (channel_journal span.checkpoint span.packet span.tick list.now channel) ≤ 998 }
 {
     let mut len = 0usize;
     for number in 0..16u8 {
@@ -48,8 +48,8 @@ pub(crate) fn channels_len(list: &[Sent], span: Span) -> usize
 /// Whether something coded of a channel is of the packet before.
 pub(crate) fn has_fresh(list: &[Sent], span: Span) -> bool
     requires order { InOrder packet_of list.now }
-    requires limits { KeepsLimits span.from (below packet_of span.packet list.now) }
-    ensures { result ≡ list_any (channel_fresh span.from span.packet list.now) channels }
+    requires limits { KeepsLimits span.checkpoint (below packet_of span.packet list.now) }
+    ensures { result ≡ list_any (channel_fresh span.checkpoint span.packet list.now) channels }
 {
     for number in 0..16u8 {
         if is_fresh(list, Channel::low(number), span) {
@@ -62,9 +62,9 @@ pub(crate) fn has_fresh(list: &[Sent], span: Span) -> bool
 /// Appends all channel journals.
 pub(crate) fn write_channels(list: &[Sent], span: Span, out: &mut Octets)
     requires order { InOrder packet_of list.now }
-    requires limits { KeepsLimits span.from (below packet_of span.packet list.now) }
-    requires spare { length (flat_map (channel_journal span.from span.packet span.tick list.now) channels) ≤ out.old.spare }
-    ensures { Appends out.old out.new (flat_map (channel_journal span.from span.packet span.tick list.now) channels) }
+    requires limits { KeepsLimits span.checkpoint (below packet_of span.packet list.now) }
+    requires spare { length (flat_map (channel_journal span.checkpoint span.packet span.tick list.now) channels) ≤ out.old.spare }
+    ensures { Appends out.old out.new (flat_map (channel_journal span.checkpoint span.packet span.tick list.now) channels) }
 {
     for number in 0..16u8 {
         write_channel(list, Channel::low(number), span, out);

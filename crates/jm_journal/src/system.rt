@@ -29,17 +29,21 @@ impl SystemLens {
     /// The lengths of the system chapters.
     fn of(list: &[Sent], span: Span) -> SystemLens
         requires order { InOrder packet_of list.now }
-        requires limits { KeepsLimits span.from (below packet_of span.packet list.now) }
-        ensures octets { AreSystemLens span.from span.packet list.now result }
+        requires limits { KeepsLimits span.checkpoint (below packet_of span.packet list.now) }
+        ensures octets { AreSystemLens span.checkpoint span.packet list.now result }
         ensures short { AreSystemShort result }
     {
-        let Span { from, packet, tick } = span;
+        let Span {
+            checkpoint,
+            packet,
+            tick,
+        } = span;
         SystemLens {
-            d: d::plain_len(list, from, packet, tick),
-            v: v::plain_len(list, from, packet, tick),
-            q: q::plain_len(list, from, packet, tick),
-            f: f::plain_len(list, from, packet, tick),
-            x: x::plain_len(list, from, packet, tick),
+            d: d::plain_len(list, checkpoint, packet, tick),
+            v: v::plain_len(list, checkpoint, packet, tick),
+            q: q::plain_len(list, checkpoint, packet, tick),
+            f: f::plain_len(list, checkpoint, packet, tick),
+            x: x::plain_len(list, checkpoint, packet, tick),
         }
     }
 
@@ -57,25 +61,29 @@ impl SystemLens {
 #[tactic(auto, unfolding(crate::specs::System::system_fresh))]
 pub(crate) fn is_fresh(list: &[Sent], span: Span) -> bool
     requires order { InOrder packet_of list.now }
-    requires limits { KeepsLimits span.from (below packet_of span.packet list.now) }
-    ensures { result ≡ system_fresh span.from span.packet list.now }
+    requires limits { KeepsLimits span.checkpoint (below packet_of span.packet list.now) }
+    ensures { result ≡ system_fresh span.checkpoint span.packet list.now }
 {
-    let Span { from, packet, .. } = span;
-    d::plain_fresh(list, from, packet)
-        || v::plain_fresh(list, from, packet)
-        || q::plain_fresh(list, from, packet)
-        || f::plain_fresh(list, from, packet)
-        || x::plain_fresh(list, from, packet)
+    let Span {
+        checkpoint,
+        packet,
+        ..
+    } = span;
+    d::plain_fresh(list, checkpoint, packet)
+        || v::plain_fresh(list, checkpoint, packet)
+        || q::plain_fresh(list, checkpoint, packet)
+        || f::plain_fresh(list, checkpoint, packet)
+        || x::plain_fresh(list, checkpoint, packet)
 }
 
 /// The header of the system journal whose chapters have these lengths.
 #[tactic(auto, unfolding(crate::specs::System::system_head))]
 fn head_of(list: &[Sent], span: Span, lens: &SystemLens) -> SystemHead
     requires order { InOrder packet_of list.now }
-    requires limits { KeepsLimits span.from (below packet_of span.packet list.now) }
-    requires octets { AreSystemLens span.from span.packet list.now lens.now }
+    requires limits { KeepsLimits span.checkpoint (below packet_of span.packet list.now) }
+    requires octets { AreSystemLens span.checkpoint span.packet list.now lens.now }
     requires short { AreSystemShort lens.now }
-    ensures head { result ≡ system_head span.from span.packet list.now }
+    ensures head { result ≡ system_head span.checkpoint span.packet list.now }
     ensures fits { FitsSystem result }
 {
     SystemHead {
@@ -93,23 +101,27 @@ fn head_of(list: &[Sent], span: Span, lens: &SystemLens) -> SystemHead
 #[tactic(auto, unfolding(crate::specs::System::system_chapters))]
 fn write_chapters(list: &[Sent], span: Span, out: &mut Octets)
     requires order { InOrder packet_of list.now }
-    requires limits { KeepsLimits span.from (below packet_of span.packet list.now) }
-    requires spare { length (system_chapters span.from span.packet list.now) ≤ out.old.spare }
-    ensures { Appends out.old out.new (system_chapters span.from span.packet list.now) }
+    requires limits { KeepsLimits span.checkpoint (below packet_of span.packet list.now) }
+    requires spare { length (system_chapters span.checkpoint span.packet list.now) ≤ out.old.spare }
+    ensures { Appends out.old out.new (system_chapters span.checkpoint span.packet list.now) }
 {
-    let Span { from, packet, tick } = span;
-    d::plain_write(list, from, packet, tick, out);
-    v::plain_write(list, from, packet, tick, out);
-    q::plain_write(list, from, packet, tick, out);
-    f::plain_write(list, from, packet, tick, out);
-    x::plain_write(list, from, packet, tick, out);
+    let Span {
+        checkpoint,
+        packet,
+        tick,
+    } = span;
+    d::plain_write(list, checkpoint, packet, tick, out);
+    v::plain_write(list, checkpoint, packet, tick, out);
+    q::plain_write(list, checkpoint, packet, tick, out);
+    f::plain_write(list, checkpoint, packet, tick, out);
+    x::plain_write(list, checkpoint, packet, tick, out);
 }
 
 /// The length of the system journal, 0 where nothing of the system chapters is coded.
 pub(crate) fn system_len(list: &[Sent], span: Span) -> usize
     requires order { InOrder packet_of list.now }
-    requires limits { KeepsLimits span.from (below packet_of span.packet list.now) }
-    ensures value { result ≡ length (system_journal span.from span.packet list.now) }
+    requires limits { KeepsLimits span.checkpoint (below packet_of span.packet list.now) }
+    ensures value { result ≡ length (system_journal span.checkpoint span.packet list.now) }
     ensures bound { result ≤ 1019 }
 {
     let chapters = SystemLens::of(list, span).total();
@@ -119,10 +131,10 @@ pub(crate) fn system_len(list: &[Sent], span: Span) -> usize
 /// Appends the system journal, nothing where nothing of the system chapters is coded.
 pub(crate) fn write_system(list: &[Sent], span: Span, out: &mut Octets)
     requires order { InOrder packet_of list.now }
-    requires limits { KeepsLimits span.from (below packet_of span.packet list.now) }
-    requires spare { length (system_journal span.from span.packet list.now) ≤ out.old.spare }
-    ensures written { Appends out.old out.new (system_journal span.from span.packet list.now) }
-    ensures bound { length (system_journal span.from span.packet list.now) ≤ 1019 }
+    requires limits { KeepsLimits span.checkpoint (below packet_of span.packet list.now) }
+    requires spare { length (system_journal span.checkpoint span.packet list.now) ≤ out.old.spare }
+    ensures written { Appends out.old out.new (system_journal span.checkpoint span.packet list.now) }
+    ensures bound { length (system_journal span.checkpoint span.packet list.now) ≤ 1019 }
 {
     let lens = SystemLens::of(list, span);
     if lens.total() == 0 {

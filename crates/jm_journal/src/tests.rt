@@ -16,17 +16,19 @@ use std::process::Abort;
 use std::test::Fail;
 
 /// Whether what is coded of these commands for this checkpoint keeps the limits.
-fn keeps_limits(list: &[Sent], from: u64) -> bool
+fn keeps_limits(list: &[Sent], checkpoint: u64) -> bool
     requires { InOrder packet_of list.now }
-    ensures { IsTrue result → KeepsLimits from list.now }
+    ensures { IsTrue result → KeepsLimits checkpoint list.now }
 {
     for number in 0..16u8 {
         let channel = Channel::low(number);
-        if m::plain_params(list, channel, from) > 16 || a::plain_notes(list, channel, from) > 64 {
+        if m::plain_params(list, channel, checkpoint) > 16
+            || a::plain_notes(list, channel, checkpoint) > 64
+        {
             return false;
         }
     }
-    let (logs, octets) = x::plain_room(list, from);
+    let (logs, octets) = x::plain_room(list, checkpoint);
     logs <= 128 && octets <= 1000
 }
 
@@ -48,21 +50,21 @@ fn push(list: &mut Vec<Sent>, packet: u64, texts: &[&[u8]], alloc: Global) -> Re
     Ok(())
 }
 
-/// Checks the journal of this packet, whose checkpoint is `from`.
+/// Checks the journal of this packet with this checkpoint.
 fn check<R: Abort>(
     rt: &R,
     list: &[Sent],
-    from: u64,
+    checkpoint: u64,
     packet: u64,
     journal: &[u8],
     alloc: Global,
 ) -> Result<(), AllocError> {
     assert!(rt; in_order(list));
     let session = session_history(list, packet);
-    assert!(rt; keeps_limits(session, from));
-    let len = plain_len(list, from, packet, 0);
+    assert!(rt; keeps_limits(session, checkpoint));
+    let len = plain_len(list, checkpoint, packet, 0);
     let mut out = Octets::with_room(len, alloc)?;
-    plain_write(list, from, packet, 0, &mut out);
+    plain_write(list, checkpoint, packet, 0, &mut out);
     assert_eq!(rt; out.as_slice(), journal);
     Ok(())
 }
@@ -84,12 +86,12 @@ fn check_first<R: Abort>(
 fn fits<R: Abort>(
     rt: &R,
     list: &[Sent],
-    from: u64,
+    checkpoint: u64,
     octets: &[u8],
     alloc: Global,
 ) -> Result<Fit, Fail> {
     assert!(rt; in_order(list));
-    Ok(plain_fits(list, from, &command(octets, alloc)?))
+    Ok(plain_fits(list, checkpoint, &command(octets, alloc)?))
 }
 
 #[test]
@@ -170,6 +172,86 @@ fn the_system_and_two_channels(rt: HostRuntime) -> Result<(), Fail> {
     ];
     check(&rt, &list, 0, 2, second, alloc)?;
     check(&rt, &list, 1, 2, &[0x80, 0, 1], alloc)?;
+    Ok(())
+}
+
+#[test]
+fn every_chapter_once(rt: HostRuntime) -> Result<(), Fail> {
+    let alloc = rt.alloc();
+    let texts: &[&[u8]] = &[
+        b"\xb0\x00\x05",
+        b"\xb0\x20\x06",
+        b"\xc0\x07",
+        b"\xb0\x63\x01",
+        b"\xb0\x62\x02",
+        b"\xb0\x06\x03",
+        b"\xe0\x00\x40",
+        b"\x90\x3c\x64",
+        b"\x90\x3c\x64",
+        b"\xd0\x10",
+        b"\xa0\x3c\x50",
+        b"\xfa",
+        b"\xf8",
+        b"\xfe",
+        b"\xf6",
+        b"\xf3\x05",
+        b"\xf1\x12",
+        b"\xf0\x01\xf7",
+    ];
+    let system = b"\x60\0\0\x7c\x0b\x30\x01\x05\x01\x60\x07\x2f\x01\x81";
+    let voice = b"\0\x22\xff\x07\x85\x06\x03\0\x05\x20\x06\x63\x01\x62\x02";
+    let params = b"\0\x06\x02\x81\x82\x03\0\x40";
+    let notes = b"\x81\xf0\x3c\xe4\0\x3c\x02\x10\0\x3c\x50";
+    let mut journal = system.to_vec(alloc)?;
+    journal.extend_from_slice(voice)?;
+    journal.extend_from_slice(params)?;
+    journal.extend_from_slice(notes)?;
+    check_first(&rt, texts, &journal, alloc)
+}
+
+#[test]
+fn the_pedal_and_its_toggles(rt: HostRuntime) -> Result<(), Fail> {
+    let alloc = rt.alloc();
+    let down: &[u8] = b"\xb0\x40\x7f";
+    check_first(
+        &rt,
+        &[down, b"\xb0\x40\x00", down],
+        b"\x20\0\0\0\x08\x40\x01\x40\x7f\x40\x83",
+        alloc,
+    )
+}
+
+#[test]
+fn the_checkpoint_is_told_modulo_65536(rt: HostRuntime) -> Result<(), Fail> {
+    let alloc = rt.alloc();
+    let mut list = Vec::new(alloc);
+    push(&mut list, 65537, &[&[0xb0, 7, 0x40]], alloc)?;
+    for (checkpoint, first, second) in [(65535, 0xff, 0xff), (65536, 0, 0), (65537, 0, 1)] {
+        let journal = [0x20, first, second, 0, 6, 0x40, 0, 7, 0x40];
+        check(&rt, &list, checkpoint, 65538, &journal, alloc)?;
+    }
+    Ok(())
+}
+
+#[test]
+fn totchan_of_all_channels(rt: HostRuntime) -> Result<(), Fail> {
+    let alloc = rt.alloc();
+    let mut list = Vec::new(alloc);
+    for channel in 0..16u8 {
+        push(&mut list, 0, &[&[0xb0 + channel, 7, 1]], alloc)?;
+    }
+    assert!(rt; in_order(&list));
+    assert!(rt; keeps_limits(&list, 0));
+    let session = session_history(&list, 1);
+    assert!(rt; keeps_limits(session, 0));
+    let len = plain_len(&list, 0, 1, 0);
+    assert_eq!(rt; len, 99);
+    let mut out = Octets::with_room(len, alloc)?;
+    plain_write(&list, 0, 1, 0, &mut out);
+    assert!(rt;
+        out.as_slice()
+            .starts_with(b"\x2f\0\0\0\x06\x40\0\x07\x01\x08\x06\x40\0\x07\x01\x10")
+    );
     Ok(())
 }
 

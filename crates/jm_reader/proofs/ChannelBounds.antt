@@ -1,7 +1,7 @@
 -- What is read of a channel journal is within its widths.
 use Rattle.std.specs.Prelude.{ℕ, ◌+◌, ◌-◌, ◌*◌, ◌%◌, ◌<◌, Bool, true, false, not, List, [], ◌∷◌, ◌++◌, length, take, drop, Option, Some, None, Result, Ok, Err, IfSome, IfOk, nat_lt, ◌==◌, if◌then◌else◌, option_map}
 use Rattle.std.proofs.Common.{arith}
-use Rattle.jm_cmds.specs.Control.{control_kind}
+use Rattle.jm_cmds.specs.Control.{is_entry, is_counted}
 use Rattle.jm_cmds.specs.HistoryLaws.{AllByRecursion-append}
 use Rattle.jm_wire.specs.Heads.{is_set, note_fields, param_fields}
 use Rattle.jm_wire.specs.declared.heads.ChannelHead.{ChannelHead}
@@ -14,14 +14,14 @@ use Rattle.jm_reader.specs.declared.pairs.PairKind.TheVariants.{Controllers, Not
 use Rattle.jm_reader.specs.declared.channel.ChannelChapter.{ChannelChapter}
 use Rattle.jm_reader.specs.declared.channel.ChannelChapter.TheVariants.{P, C, M, W, N, E, T, A}
 use Rattle.jm_reader.specs.Bounds.{IsWithin, IsLog, AreLogs}
-use Rattle.jm_reader.specs.Chapter.{Chapter, chapter}
+use Rattle.jm_reader.specs.Chapter.{Chapter, chapter, with_size}
 use Rattle.jm_reader.specs.ChapterM.{half_read, low_read, halves_read, param_read, before_others, params_read, known, m_logs, is_written, m_read}
 use Rattle.jm_reader.specs.ChapterN.{off_log, off_octet, off_logs, note_count, off_count, n_logs, n_size, n_read}
 use Rattle.jm_reader.specs.ChapterP.{p_read}
 use Rattle.jm_reader.specs.ChapterT.{t_read}
 use Rattle.jm_reader.specs.ChapterW.{w_read}
-use Rattle.jm_reader.specs.ChannelJournal.{is_flagged, chapter_read, flagged_read, order, behind_chapter, chapters_read, head_read, inside_read, with_length, behind_head, channel_read}
-use Rattle.jm_reader.specs.Pairs.{is_entry, is_counted, control_said, said, logged, pair_logs, listed_size, listed_read}
+use Rattle.jm_reader.specs.ChannelJournal.{is_flagged, chapter_read, flagged_read, order, behind_chapter, chapters_read, head_read, inside_read, behind_head, channel_read}
+use Rattle.jm_reader.specs.Pairs.{toggles_said, count_said, control_said, said, logged, pair_logs, listed_size, listed_read}
 
 pub both : (xs ys : List Log) → AreLogs xs → AreLogs ys → AreLogs (xs ++ ys)
 both xs ys a b = AllByRecursion-append IsLog xs ys a b
@@ -35,10 +35,11 @@ either_said false x y a b = b
 control_within : (channel number form : ℕ) → IfSome (control_said channel number form) IsWithin
 control_within channel number form =
     let few : form % 64 < 64 = omega arith in
-    let counted = either_said (is_counted (control_kind number)) (Some (kinds.Count channel number (form % 64))) None few tt in
-    let behind = either_said (nat_lt form 192) None _ tt counted in
+    let toggles = either_said (number == 64) (Some (kinds.Toggle channel (form % 64))) None few tt in
+    let counted = either_said (is_counted number) (Some (kinds.Count channel number (form % 64))) None few tt in
+    let behind = either_said (nat_lt form 192) (toggles_said channel number form) (count_said channel number form) toggles counted in
     let valued = either_said (nat_lt form 128) (Some (kinds.Control channel number form)) _ tt behind in
-    either_said (is_entry (control_kind number)) None _ tt valued
+    either_said (is_entry number) None _ tt valued
 
 said_within : (kind : PairKind) (channel number second : ℕ) → IfSome (said kind channel number second) IsWithin
 said_within Controllers channel number second = control_within channel number second
@@ -193,16 +194,16 @@ pub either_inside : (test : Bool) (x y : Result (List Log) JournalFault) → IfO
 either_inside true x y a b = a
 either_inside false x y a b = b
 
-with_length_within : (size : ℕ) (logs : Result (List Log) JournalFault) → IfOk logs AreLogs → IfOk (with_length size logs) (λ r. AreLogs r.0)
-with_length_within size (Ok logs) h = h
-with_length_within size (Err fault) h = tt
+pub with_size_within : (size : ℕ) (logs : Result (List Log) JournalFault) → IfOk logs AreLogs → IfOk (with_size size logs) (λ r. AreLogs r.0)
+with_size_within size (Ok logs) h = h
+with_size_within size (Err fault) h = tt
 
 headed_within : (place : ℕ) (before : List Log) (octets : List ℕ) (head : Result ChannelHead JournalFault) → AreLogs before →
     IfOk (behind_head place before octets head) (λ r. AreLogs r.0)
 headed_within place before octets (Err fault) a = tt
 headed_within place before octets (Ok head) a =
     let inside = take (head.length - 3) (drop 3 octets) in
-    with_length_within head.length (inside_read head (place + 3) before inside)
+    with_size_within head.length (inside_read head (place + 3) before inside)
     (either_inside head.h (Ok before) _ a (chapters_within head order (place + 3) before inside a))
 
 pub channel_within : (place : ℕ) (before : List Log) (octets : List ℕ) → AreLogs before → IfOk (channel_read place before octets) (λ r. AreLogs r.0)

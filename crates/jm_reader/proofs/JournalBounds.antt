@@ -25,10 +25,10 @@ use Rattle.jm_reader.specs.ChapterQ.{clocked, sequencer_log, q_read}
 use Rattle.jm_reader.specs.ChapterF.{word_read, time_logs, partial_read, complete_read, f_read}
 use Rattle.jm_reader.specs.ChapterX.{log_head, is_written, log_size, sysex_log, log_read, logs_read, x_read}
 use Rattle.jm_reader.specs.ChannelJournal.{channel_read}
-use Rattle.jm_reader.specs.SystemJournal.{in_order, is_there, ends_journal, chapter_read, behind_chapter, chapters_read, sized, system_at, system_read}
+use Rattle.jm_reader.specs.SystemJournal.{in_order, is_there, ends_journal, chapter_read, behind_chapter, chapters_read, system_at, system_read}
 use Rattle.jm_reader.specs.Journal.{behind_journal, channels_read, flagged_system, channel_count, reported, journal_read}
 use Rattle.jm_reader.specs.Journal as whole
-use Rattle.jm_reader.proofs.ChannelBounds.{both, ReadsLogs, either_read, either_inside, channel_within}
+use Rattle.jm_reader.proofs.ChannelBounds.{both, ReadsLogs, either_read, either_inside, channel_within, with_size_within}
 
 abbrev pub AreOctets : List ℕ → Type 0
 AreOctets octets = (i : ℕ) → get_or octets i 0 < 256
@@ -163,16 +163,12 @@ either_journal : (test : Bool) (x y : Result (List Log × ℕ) JournalFault) →
 either_journal true x y a b = a
 either_journal false x y a b = b
 
-sized_within : (size : ℕ) (logs : Result (List Log) JournalFault) → IfOk logs AreLogs → IfOk (sized size logs) (λ r. AreLogs r.0)
-sized_within size (Ok logs) h = h
-sized_within size (Err fault) h = tt
-
 system_at_within : (head : SystemHead) (place : ℕ) (before : List Log) (octets : List ℕ) → AreLogs before → AreOctets octets → IfOk (system_at head place before octets) (λ r. AreLogs r.0)
 system_at_within head place before octets a o =
     let inside = take (head.length - 2) (drop 2 octets) in
     either_journal (nat_lt (length octets) head.length) _ _ tt
     (either_journal (nat_lt head.length 2) _ _ tt
-    (sized_within head.length (chapters_read in_order head (place + 2) before inside)
+    (with_size_within head.length (chapters_read in_order head (place + 2) before inside)
     (chapters_within in_order head (place + 2) before inside a (taken (head.length - 2) (drop 2 octets) (dropped 2 octets o)))))
 
 system_within : (place : ℕ) (before : List Log) (octets : List ℕ) → AreLogs before → AreOctets octets → IfOk (system_read place before octets) (λ r. AreLogs r.0)

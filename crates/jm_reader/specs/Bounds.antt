@@ -16,6 +16,7 @@ IsWithin (kinds.Sysex count octets) = Unit {0}
 IsWithin (kinds.Program channel program bank) = Unit {0}
 IsWithin (kinds.Param channel nrpn high low entry_high entry_low) = Unit {0}
 IsWithin (kinds.Control channel number value) = Unit {0}
+IsWithin (kinds.Toggle channel count) = count < 64
 IsWithin (kinds.Count channel number count) = count < 64
 IsWithin (kinds.Wheel channel first second) = Unit {0}
 IsWithin (kinds.NoteOff channel note) = Unit {0}

@@ -8,7 +8,7 @@ use Rattle.jm_reader.specs.declared.logs.Log.{Log}
 use Rattle.jm_reader.specs.declared.channel.ChannelChapter.{ChannelChapter}
 use Rattle.jm_reader.specs.declared.channel.ChannelChapter.TheVariants.{P, C, M, W, N, E, T, A}
 use Rattle.jm_reader.specs.declared.pairs.PairKind.TheVariants.{Controllers, Extras, Pressures}
-use Rattle.jm_reader.specs.Chapter.{Chapter, chapter}
+use Rattle.jm_reader.specs.Chapter.{Chapter, chapter, with_size}
 use Rattle.jm_reader.specs.ChapterM.{m_read}
 use Rattle.jm_reader.specs.ChapterN.{n_read}
 use Rattle.jm_reader.specs.ChapterP.{p_read}
@@ -66,7 +66,7 @@ chapters_read head (which ∷ later) place before octets =
 
 -- A header at a place, where there are so many octets from it on: the journal doesn't end within its LENGTH, and this
 -- isn't less than the header's own size.
-abbrev pub sized : ℕ → ℕ → ChannelHead → Result ChannelHead JournalFault
+abbrev pub sized : (place size : ℕ) → ChannelHead → Result ChannelHead JournalFault
 sized place size head =
     if nat_lt size head.length then Err (Short place)
     else (if nat_lt head.length 3 then Err (Inside place) else Ok head)
@@ -79,13 +79,8 @@ head_read place _ = Err (Short place)
 abbrev pub inside_read : ChannelHead → ℕ → List Log → List ℕ → Result (List Log) JournalFault
 inside_read head place before octets = if head.h then Ok before else chapters_read head order place before octets
 
--- the logs, and the LENGTH
-abbrev pub with_length : ℕ → Result (List Log) JournalFault → Result (List Log × ℕ) JournalFault
-with_length length (Ok logs) = Ok (logs, length)
-with_length length (Err fault) = Err fault
-
 abbrev pub behind_head : ℕ → List Log → List ℕ → Result ChannelHead JournalFault → Result (List Log × ℕ) JournalFault
-behind_head place before octets (Ok head) = with_length head.length (inside_read head (place + 3) before (take (head.length - 3) (drop 3 octets)))
+behind_head place before octets (Ok head) = with_size head.length (inside_read head (place + 3) before (take (head.length - 3) (drop 3 octets)))
 behind_head place before octets (Err fault) = Err fault
 
 -- The channel journal at the front of octets, which stand at a place, behind these logs: all logs, and its LENGTH.

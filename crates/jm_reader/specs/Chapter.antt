@@ -24,6 +24,11 @@ abbrev pub chapter : ℕ → List Log → Chapter → Result (List Log × ℕ) J
 chapter place before None = Err (Inside place)
 chapter place before (Some read) = Ok (before ++ read.0, read.1)
 
+-- logs, and so many octets of them
+abbrev pub with_size : (size : ℕ) → Result (List Log) JournalFault → Result (List Log × ℕ) JournalFault
+with_size size (Ok logs) = Ok (logs, size)
+with_size size (Err fault) = Err fault
+
 -- The reader answers what is meant, with these logs behind it, unless memory was refused.
 abbrev pub Reads : Result ℕ (ReadError JournalFault) → List Log → Result (List Log × ℕ) JournalFault → Type 0
 Reads (Ok used) after meant = meant ≡ Ok (after, used)

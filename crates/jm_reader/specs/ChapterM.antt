@@ -14,18 +14,18 @@ half_read false octets = Some (None, octets)
 half_read true [] = None
 half_read true (octet ∷ octets) = Some (Some (octet % 128), octets)
 
-abbrev pub param_log : ℕ → ℕ → ℕ → Option ℕ → Option ℕ → Log
+abbrev pub param_log : (channel first second : ℕ) → (entry_high entry_low : Option ℕ) → Log
 param_log channel first second entry_high entry_low = record {
   fresh = nat_lt first 128;
   what = Param channel (is_set 128 second) (second % 128) (first % 128) entry_high entry_low;
 }
 
 -- the low half behind a high one, or behind none
-abbrev pub low_read : ℕ → ℕ → ℕ → Option ℕ → Option (Option ℕ × List ℕ) → Option (Log × List ℕ)
+abbrev pub low_read : (channel first second : ℕ) → (entry_high : Option ℕ) → Option (Option ℕ × List ℕ) → Option (Log × List ℕ)
 low_read channel first second entry_high None = None
 low_read channel first second entry_high (Some low) = Some (param_log channel first second entry_high low.0, low.1)
 
-abbrev pub halves_read : ℕ → ℕ → ℕ → ℕ → Option (Option ℕ × List ℕ) → Option (Log × List ℕ)
+abbrev pub halves_read : (channel first second flags : ℕ) → Option (Option ℕ × List ℕ) → Option (Log × List ℕ)
 halves_read channel first second flags None = None
 halves_read channel first second flags (Some high) = low_read channel first second high.0 (half_read (is_set 64 flags) high.1)
 

@@ -11,11 +11,11 @@ use Rattle.jm_reader.specs.Pairs.{pair_logs}
 -- ## OFFBITS
 
 -- a note whose bit is set
-abbrev pub off_log : ℕ → Bool → ℕ → Bool → List Log
+abbrev pub off_log : (channel : ℕ) → (fresh : Bool) → (note : ℕ) → (is_off : Bool) → List Log
 off_log channel fresh note is_off = if is_off then record { fresh = fresh; what = NoteOff channel note } ∷ [] else []
 
 -- the eight notes from this one on, the first of them by the high bit
-abbrev pub off_octet : ℕ → Bool → ℕ → ℕ → List Log
+abbrev pub off_octet : (channel : ℕ) → (fresh : Bool) → (note octet : ℕ) → List Log
 off_octet channel fresh note octet =
     off_log channel fresh note (is_set 128 octet) ++ off_log channel fresh (note + 1) (is_set 64 octet)
     ++ off_log channel fresh (note + 2) (is_set 32 octet) ++ off_log channel fresh (note + 3) (is_set 16 octet)
@@ -23,7 +23,7 @@ off_octet channel fresh note octet =
     ++ off_log channel fresh (note + 6) (is_set 2 octet) ++ off_log channel fresh (note + 7) (is_set 1 octet)
 
 -- octet by octet, from this note on
-abbrev pub off_logs : ℕ → Bool → ℕ → List ℕ → List Log
+abbrev pub off_logs : (channel : ℕ) → (fresh : Bool) → (note : ℕ) → List ℕ → List Log
 off_logs channel fresh note [] = []
 off_logs channel fresh note (octet ∷ octets) = off_octet channel fresh note octet ++ off_logs channel fresh (note + 8) octets
 

@@ -5,7 +5,7 @@ use Rattle.jm_reader.specs.declared.logs.LogKind.TheVariants.{Program}
 use Rattle.jm_reader.specs.Chapter.{Chapter}
 
 -- B BANK-MSB, X BANK-LSB: a bank is there where B is 1. X isn't kept.
-abbrev pub bank_read : ℕ → ℕ → Option (ℕ × ℕ)
+abbrev pub bank_read : (high low : ℕ) → Option (ℕ × ℕ)
 bank_read high low = if nat_lt high 128 then None else Some (high % 128, low % 128)
 
 -- S PROGRAM and the bank

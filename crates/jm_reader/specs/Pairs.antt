@@ -1,59 +1,41 @@
 -- Logs of two octets each: those of Chapters C, E and A behind a header that counts them, and the note logs of
 -- Chapter N (RFC 6295, A.3, A.6, A.7 and A.9).
-use Rattle.std.specs.Prelude.{ℕ, ◌+◌, ◌*◌, ◌%◌, Bool, true, false, not, List, [], ◌∷◌, ◌++◌, Option, Some, None, length, take, nat_lt, if◌then◌else◌}
-use Rattle.jm_cmds.specs.declared.controls.ControlKind.{ControlKind}
-use Rattle.jm_cmds.specs.declared.controls.ControlKind.TheVariants as controls
-use Rattle.jm_cmds.specs.Control.{control_kind}
+use Rattle.std.specs.Prelude.{ℕ, ◌+◌, ◌*◌, ◌%◌, Bool, not, List, [], ◌∷◌, ◌++◌, Option, Some, None, length, take, nat_lt, ◌==◌, if◌then◌else◌}
+use Rattle.jm_cmds.specs.Control.{is_entry, is_counted}
 use Rattle.jm_reader.specs.declared.logs.Log.{Log}
 use Rattle.jm_reader.specs.declared.logs.LogKind.{LogKind}
-use Rattle.jm_reader.specs.declared.logs.LogKind.TheVariants.{Control, Count, NoteOn, Extra, Poly}
+use Rattle.jm_reader.specs.declared.logs.LogKind.TheVariants.{Control, Toggle, Count, NoteOn, Extra, Poly}
 use Rattle.jm_reader.specs.declared.pairs.PairKind.{PairKind}
 use Rattle.jm_reader.specs.declared.pairs.PairKind.TheVariants.{Controllers, Notes, Extras, Pressures}
 use Rattle.jm_reader.specs.Chapter.{Chapter}
 
 -- ## Chapter C
 
--- 6 and 38, whose values stand in Chapter M
-abbrev pub is_entry : ControlKind → Bool
-is_entry (controls.DataEntry high) = true
-is_entry (controls.Selection nrpn high) = false
-is_entry (controls.Increment number) = false
-is_entry (controls.Silence number) = false
-is_entry controls.ResetControllers = false
-is_entry (controls.Mode number) = false
-is_entry (controls.Kept number) = false
-is_entry (controls.Plain number) = false
+-- A VALUE: a value with A=0 for each controller but 6 and 38, whose values stand in Chapter M; with A=1 and then 0 the
+-- toggles of the sustain pedal, which is Control 64; with A=1 and then 1 a count where the commands are counted. Other logs say
+-- nothing here: that toggles stand for 64 alone, and counts for these controllers alone, is this project's own choice.
+abbrev pub toggles_said : (channel number form : ℕ) → Option LogKind
+toggles_said channel number form = if number == 64 then Some (Toggle channel (form % 64)) else None
 
--- those whose commands are counted: 96, 97, 120, 121 and 123
-abbrev pub is_counted : ControlKind → Bool
-is_counted (controls.DataEntry high) = false
-is_counted (controls.Selection nrpn high) = false
-is_counted (controls.Increment number) = true
-is_counted (controls.Silence number) = true
-is_counted controls.ResetControllers = true
-is_counted (controls.Mode number) = false
-is_counted (controls.Kept number) = false
-is_counted (controls.Plain number) = false
+abbrev pub count_said : (channel number form : ℕ) → Option LogKind
+count_said channel number form = if is_counted number then Some (Count channel number (form % 64)) else None
 
--- A VALUE: a value with A=0 for each controller but 6 and 38, a count with A=1 and then 1 where it is counted; with
--- A=1 and then 0 the log has the toggle form, and says nothing here
-abbrev pub control_said : ℕ → ℕ → ℕ → Option LogKind
+abbrev pub control_said : (channel number form : ℕ) → Option LogKind
 control_said channel number form =
-    if is_entry (control_kind number) then None
+    if is_entry number then None
     else (if nat_lt form 128 then Some (Control channel number form)
-    else (if nat_lt form 192 then None
-    else (if is_counted (control_kind number) then Some (Count channel number (form % 64)) else None)))
+    else (if nat_lt form 192 then toggles_said channel number form else count_said channel number form))
 
 -- ## The note logs of Chapter N
 
 -- Y VELOCITY
-abbrev pub note_said : ℕ → ℕ → ℕ → LogKind
+abbrev pub note_said : (channel note second : ℕ) → LogKind
 note_said channel note second = NoteOn channel note (second % 128) (not (nat_lt second 128))
 
 -- ## What two octets say
 
 -- the kind of log, with the number of seven bits behind S
-abbrev pub said : PairKind → ℕ → ℕ → ℕ → Option LogKind
+abbrev pub said : PairKind → (channel number second : ℕ) → Option LogKind
 said Controllers channel number second = control_said channel number second
 said Notes channel number second = Some (note_said channel number second)
 said Extras channel number second = Some (Extra channel number (not (nat_lt second 128)) (second % 128))
@@ -64,7 +46,7 @@ logged fresh None = []
 logged fresh (Some what) = record { fresh = fresh; what = what } ∷ []
 
 -- S and a number, then the second octet
-abbrev pub pair_logs : PairKind → ℕ → List ℕ → List Log
+abbrev pub pair_logs : PairKind → (channel : ℕ) → List ℕ → List Log
 pair_logs kind channel (first ∷ second ∷ rest) = logged (nat_lt first 128) (said kind channel (first % 128) second) ++ pair_logs kind channel rest
 pair_logs kind channel _ = []
 
@@ -74,7 +56,7 @@ pair_logs kind channel _ = []
 abbrev pub listed_size : ℕ → ℕ
 listed_size first = 2 * (first % 128 + 1)
 
-abbrev pub listed_read : PairKind → ℕ → List ℕ → Chapter
+abbrev pub listed_read : PairKind → (channel : ℕ) → List ℕ → Chapter
 listed_read kind channel (first ∷ rest) =
     if nat_lt (length rest) (listed_size first) then None
     else Some (pair_logs kind channel (take (listed_size first) rest), listed_size first + 1)

@@ -7,7 +7,7 @@ use Rattle.jm_reader.specs.declared.faults.JournalFault.TheVariants.{Short, Insi
 use Rattle.jm_reader.specs.declared.logs.Log.{Log}
 use Rattle.jm_reader.specs.declared.system.Letter.{Letter}
 use Rattle.jm_reader.specs.declared.system.Letter.TheVariants.{D, V, Q, F, X}
-use Rattle.jm_reader.specs.Chapter.{Chapter, chapter}
+use Rattle.jm_reader.specs.Chapter.{Chapter, chapter, with_size}
 use Rattle.jm_reader.specs.ChapterD.{d_read, d_ends}
 use Rattle.jm_reader.specs.ChapterV.{v_read}
 use Rattle.jm_reader.specs.ChapterQ.{q_read, q_ends}
@@ -54,17 +54,12 @@ chapters_read (letter ∷ letters) head place before octets =
     then behind_chapter (ends_journal letter octets) (chapter place before (chapter_read letter octets)) (λ read. chapters_read letters head (place + read.1) read.0 (drop read.1 octets))
     else chapters_read letters head place before octets
 
--- the logs, and the octets of their journal
-abbrev pub sized : ℕ → Result (List Log) JournalFault → Result (List Log × ℕ) JournalFault
-sized size (Ok logs) = Ok (logs, size)
-sized size (Err f) = Err f
-
 -- the journal with this header, by its LENGTH
 abbrev pub system_at : SystemHead → (place : ℕ) → List Log → List ℕ → Result (List Log × ℕ) JournalFault
 system_at head place before octets =
     if nat_lt (length octets) head.length then Err (Short place)
     else (if nat_lt head.length 2 then Err (Inside place)
-    else sized head.length (chapters_read in_order head (place + 2) before (take (head.length - 2) (drop 2 octets))))
+    else with_size head.length (chapters_read in_order head (place + 2) before (take (head.length - 2) (drop 2 octets))))
 
 -- the journal at the front of octets that stand at this place, behind these logs
 unfoldable pub system_read : (place : ℕ) → List Log → List ℕ → Result (List Log × ℕ) JournalFault

@@ -13,7 +13,7 @@ AreCommands sent = AllByRecursion (λ place. IsCommand place.command) sent
 
 -- A chapter of a channel: where it is there, its octets with any octets behind them are read as these logs, and as so
 -- many octets; and where it isn't, there are no logs.
-pub record ChapterIsRead (text : (channel from packet : ℕ) → List Sent → List ℕ) (logs : (channel from packet : ℕ) → List Sent → List Log) (read : ℕ → List ℕ → Chapter) : Type 0 where
-  pub again : (channel from packet : ℕ) (sent : List Sent) → AreCommands sent → is_there (text channel from packet sent) ≡ true → (rest : List ℕ) →
-      read channel (text channel from packet sent ++ rest) ≡ Some (logs channel from packet sent, length (text channel from packet sent))
-  pub none : (channel from packet : ℕ) (sent : List Sent) → AreCommands sent → is_there (text channel from packet sent) ≡ false → logs channel from packet sent ≡ []
+pub record ChapterIsRead (text : (channel checkpoint packet : ℕ) → List Sent → List ℕ) (logs : (channel checkpoint packet : ℕ) → List Sent → List Log) (read : ℕ → List ℕ → Chapter) : Type 0 where
+  pub again : (channel checkpoint packet : ℕ) (sent : List Sent) → AreCommands sent → is_there (text channel checkpoint packet sent) ≡ true → (rest : List ℕ) →
+      read channel (text channel checkpoint packet sent ++ rest) ≡ Some (logs channel checkpoint packet sent, length (text channel checkpoint packet sent))
+  pub none : (channel checkpoint packet : ℕ) (sent : List Sent) → AreCommands sent → is_there (text channel checkpoint packet sent) ≡ false → logs channel checkpoint packet sent ≡ []

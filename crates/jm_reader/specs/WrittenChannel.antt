@@ -6,8 +6,8 @@ use Rattle.jm_wire.specs.declared.heads.NoteHead.{NoteHead}
 use Rattle.jm_wire.specs.Heads.{FitsChannel, channel_octets, note_fields}
 use Rattle.jm_cmds.specs.declared.history.Sent.{Sent}
 use Rattle.jm_cmds.specs.History.{below}
-use Rattle.jm_cmds.specs.Listed.{listed_len, count_logs}
-use Rattle.jm_cmds.specs.ListedLaws.{length-listed}
+use Rattle.jm_chapter.specs.Logs.{listed_size as logs_size, log_count}
+use Rattle.jm_chapter.specs.LogsLaws.{length-listed}
 use Rattle.jm_cmds.specs.Sent.{packet_of}
 use Rattle.ch_voice.specs.ChapterP.{chapter_p}
 use Rattle.ch_voice.specs.ChapterT.{chapter_t}
@@ -46,26 +46,26 @@ use Rattle.jm_reader.specs.WrittenA.{a_said, a_again, a_none}
 use Rattle.jm_reader.specs.WrittenParts.{Part, IsRead, part_read, text_of, logs_of, parts_read, headed_read}
 
 -- The logs of a channel in the journal of this packet, in the order of its chapters.
-unfoldable pub channel_logs : (from packet tick : ℕ) → List Sent → (channel : ℕ) → List Log
-channel_logs from packet tick sent channel =
-    p_said channel from packet sent
-    ++ c_said channel from packet sent
-    ++ m_said channel from packet sent
-    ++ w_said channel from packet sent
-    ++ n_said channel from packet tick sent
-    ++ e_said channel from packet sent
-    ++ t_said channel from packet sent
-    ++ a_said channel from packet sent
+unfoldable pub channel_logs : (checkpoint packet tick : ℕ) → List Sent → (channel : ℕ) → List Log
+channel_logs checkpoint packet tick sent channel =
+    p_said channel checkpoint packet sent
+    ++ c_said channel checkpoint packet sent
+    ++ m_said channel checkpoint packet sent
+    ++ w_said channel checkpoint packet sent
+    ++ n_said channel checkpoint packet tick sent
+    ++ e_said channel checkpoint packet sent
+    ++ t_said channel checkpoint packet sent
+    ++ a_said channel checkpoint packet sent
 
 -- Where a channel's journal is there, it is read as these logs behind those before it, whatever octets follow, and as so
 -- many octets; and where it isn't, there are no logs.
 pub record ChannelsAreRead : Type 0 where
-  pub there : (from packet tick channel : ℕ) (sent : List Sent) → channel < 16 → AreCommands sent → KeepsLimits from (below packet_of packet sent) →
-      is_there (channel_journal from packet tick sent channel) ≡ true → (place : ℕ) (before : List Log) (rest : List ℕ) →
-      channel_read place before (channel_journal from packet tick sent channel ++ rest)
-      ≡ Ok (before ++ channel_logs from packet tick sent channel, length (channel_journal from packet tick sent channel))
-  pub none : (from packet tick channel : ℕ) (sent : List Sent) → AreCommands sent →
-      is_there (channel_journal from packet tick sent channel) ≡ false → channel_logs from packet tick sent channel ≡ []
+  pub there : (checkpoint packet tick channel : ℕ) (sent : List Sent) → channel < 16 → AreCommands sent → KeepsLimits checkpoint (below packet_of packet sent) →
+      is_there (channel_journal checkpoint packet tick sent channel) ≡ true → (place : ℕ) (before : List Log) (rest : List ℕ) →
+      channel_read place before (channel_journal checkpoint packet tick sent channel ++ rest)
+      ≡ Ok (before ++ channel_logs checkpoint packet tick sent channel, length (channel_journal checkpoint packet tick sent channel))
+  pub none : (checkpoint packet tick channel : ℕ) (sent : List Sent) → AreCommands sent →
+      is_there (channel_journal checkpoint packet tick sent channel) ≡ false → channel_logs checkpoint packet tick sent channel ≡ []
 
 -- ## The chapters are short
 
@@ -131,154 +131,154 @@ n_short channel (a ∷ b ∷ rest) logs size e =
 m_length : (fresh : Bool) (octets : List ℕ) → length (chapter_of fresh octets) ≤ 2 + length octets
 m_length fresh octets = elim (cases_Bool (eqb (length octets) 0)) [ inl t ↦ rw t (omega arith) | inr f ↦ rw f (omega arith) ]
 
-m_short : (channel from packet : ℕ) (sent : List Sent) → param_count channel from (below packet_of packet sent) ≤ 16 → length (chapter_m channel from packet sent) ≤ 82
+m_short : (channel checkpoint packet : ℕ) (sent : List Sent) → param_count channel checkpoint (below packet_of packet sent) ≤ 16 → length (chapter_m channel checkpoint packet sent) ≤ 82
 unfolding chapter_m param_count
-m_short channel from packet sent few =
+m_short channel checkpoint packet sent few =
     let places = session_places channel (below packet_of packet sent) in
-    let params = entered channel from places in
-    omega (arith, few, m_length (fresh_among packet params) (param_logs channel from packet places), logs_short channel from packet places params)
+    let params = entered channel checkpoint places in
+    omega (arith, few, m_length (fresh_among packet params) (param_logs channel checkpoint packet places), logs_short channel checkpoint packet places params)
 
-listed_len_short : (count : ℕ) → count ≤ 64 → listed_len count ≤ 129
-listed_len_short count few = elim (cases_Bool (eqb count 0)) [ inl t ↦ rw t (omega arith) | inr f ↦ rw f (omega arith) ]
+logs_size_short : (count : ℕ) → count ≤ 64 → logs_size count ≤ 129
+logs_size_short count few = elim (cases_Bool (eqb count 0)) [ inl t ↦ rw t (omega arith) | inr f ↦ rw f (omega arith) ]
 
-a_short : (channel from packet : ℕ) (sent : List Sent) → poly_count channel from (below packet_of packet sent) ≤ 64 → length (chapter_a channel from packet sent) ≤ 129
+a_short : (channel checkpoint packet : ℕ) (sent : List Sent) → poly_count channel checkpoint (below packet_of packet sent) ≤ 64 → length (chapter_a channel checkpoint packet sent) ≤ 129
 unfolding chapter_a poly_count
-a_short channel from packet sent few =
+a_short channel checkpoint packet sent few =
     let seen = below packet_of packet sent in
-    let places = coded_presses channel from seen in
-    let count = count_logs (press_at channel seen) places in
-    omega (arith, length-listed (press_at channel seen) packet places, listed_len_short count (omega (arith, few, logs-keys channel seen places)))
+    let places = coded_presses channel checkpoint seen in
+    let count = log_count (press_at channel seen) places in
+    omega (arith, length-listed (press_at channel seen) packet places, logs_size_short count (omega (arith, few, logs-keys channel seen places)))
 
-chapters_short : (from packet tick channel : ℕ) (sent : List Sent) → channel < 16 → AreCommands sent → KeepsLimits from (below packet_of packet sent) → length (channel_chapters from packet tick sent channel) ≤ 1005
-chapters_short from packet tick channel sent c h limits =
+chapters_short : (checkpoint packet tick channel : ℕ) (sent : List Sent) → channel < 16 → AreCommands sent → KeepsLimits checkpoint (below packet_of packet sent) → length (channel_chapters checkpoint packet tick sent channel) ≤ 1005
+chapters_short checkpoint packet tick channel sent c h limits =
     let params = limits.params channel c in
-    let p = short (p_read channel) 3 (chapter_p channel from packet sent) (p_said channel from packet sent) (p_short channel) (p_again channel from packet sent h) in
-    let k = short (listed_read Controllers channel) 257 (chapter_c channel from packet sent) (c_said channel from packet sent) (listed_short Controllers channel) (c_again channel from packet sent h) in
-    let m = m_short channel from packet sent params in
-    let w = short (w_read channel) 2 (chapter_w channel from packet sent) (w_said channel from packet sent) (w_short channel) (w_again channel from packet sent h) in
-    let n = short (n_read channel) 274 (chapter_n channel from packet tick sent) (n_said channel from packet tick sent) (n_short channel) (n_again channel from packet tick sent h) in
-    let e = short (listed_read Extras channel) 257 (chapter_e channel from packet sent) (e_said channel from packet sent) (listed_short Extras channel) (e_again channel from packet sent h) in
-    let t = short (t_read channel) 1 (chapter_t channel from packet sent) (t_said channel from packet sent) (t_short channel) (t_again channel from packet sent h) in
-    let a = a_short channel from packet sent (limits.notes channel c) in
-    omega (arith, chapters_length from packet tick sent channel, p, k, m, w, n, e, t, a)
+    let p = short (p_read channel) 3 (chapter_p channel checkpoint packet sent) (p_said channel checkpoint packet sent) (p_short channel) (p_again channel checkpoint packet sent h) in
+    let k = short (listed_read Controllers channel) 257 (chapter_c channel checkpoint packet sent) (c_said channel checkpoint packet sent) (listed_short Controllers channel) (c_again channel checkpoint packet sent h) in
+    let m = m_short channel checkpoint packet sent params in
+    let w = short (w_read channel) 2 (chapter_w channel checkpoint packet sent) (w_said channel checkpoint packet sent) (w_short channel) (w_again channel checkpoint packet sent h) in
+    let n = short (n_read channel) 274 (chapter_n channel checkpoint packet tick sent) (n_said channel checkpoint packet tick sent) (n_short channel) (n_again channel checkpoint packet tick sent h) in
+    let e = short (listed_read Extras channel) 257 (chapter_e channel checkpoint packet sent) (e_said channel checkpoint packet sent) (listed_short Extras channel) (e_again channel checkpoint packet sent h) in
+    let t = short (t_read channel) 1 (chapter_t channel checkpoint packet sent) (t_said channel checkpoint packet sent) (t_short channel) (t_again channel checkpoint packet sent h) in
+    let a = a_short channel checkpoint packet sent (limits.notes channel c) in
+    omega (arith, chapters_length checkpoint packet tick sent channel, p, k, m, w, n, e, t, a)
 
 -- ## The chapters are read
 
 -- the chapters of a channel's journal
-abbrev part_of : (from packet tick channel : ℕ) → List Sent → ChannelChapter → Part
-part_of from packet tick channel sent P = record { which = P; text = chapter_p channel from packet sent; logs = p_said channel from packet sent }
-part_of from packet tick channel sent C = record { which = C; text = chapter_c channel from packet sent; logs = c_said channel from packet sent }
-part_of from packet tick channel sent M = record { which = M; text = chapter_m channel from packet sent; logs = m_said channel from packet sent }
-part_of from packet tick channel sent W = record { which = W; text = chapter_w channel from packet sent; logs = w_said channel from packet sent }
-part_of from packet tick channel sent N = record { which = N; text = chapter_n channel from packet tick sent; logs = n_said channel from packet tick sent }
-part_of from packet tick channel sent E = record { which = E; text = chapter_e channel from packet sent; logs = e_said channel from packet sent }
-part_of from packet tick channel sent T = record { which = T; text = chapter_t channel from packet sent; logs = t_said channel from packet sent }
-part_of from packet tick channel sent A = record { which = A; text = chapter_a channel from packet sent; logs = a_said channel from packet sent }
+abbrev part_of : (checkpoint packet tick channel : ℕ) → List Sent → ChannelChapter → Part
+part_of checkpoint packet tick channel sent P = record { which = P; text = chapter_p channel checkpoint packet sent; logs = p_said channel checkpoint packet sent }
+part_of checkpoint packet tick channel sent C = record { which = C; text = chapter_c channel checkpoint packet sent; logs = c_said channel checkpoint packet sent }
+part_of checkpoint packet tick channel sent M = record { which = M; text = chapter_m channel checkpoint packet sent; logs = m_said channel checkpoint packet sent }
+part_of checkpoint packet tick channel sent W = record { which = W; text = chapter_w channel checkpoint packet sent; logs = w_said channel checkpoint packet sent }
+part_of checkpoint packet tick channel sent N = record { which = N; text = chapter_n channel checkpoint packet tick sent; logs = n_said channel checkpoint packet tick sent }
+part_of checkpoint packet tick channel sent E = record { which = E; text = chapter_e channel checkpoint packet sent; logs = e_said channel checkpoint packet sent }
+part_of checkpoint packet tick channel sent T = record { which = T; text = chapter_t channel checkpoint packet sent; logs = t_said channel checkpoint packet sent }
+part_of checkpoint packet tick channel sent A = record { which = A; text = chapter_a channel checkpoint packet sent; logs = a_said channel checkpoint packet sent }
 
-abbrev parts : (from packet tick channel : ℕ) → List Sent → List Part
-parts from packet tick channel sent = map (part_of from packet tick channel sent) order
+abbrev parts : (checkpoint packet tick channel : ℕ) → List Sent → List Part
+parts checkpoint packet tick channel sent = map (part_of checkpoint packet tick channel sent) order
 
-parts_text : (from packet tick channel : ℕ) (sent : List Sent) → flat_map text_of (parts from packet tick channel sent) ≡ channel_chapters from packet tick sent channel
+parts_text : (checkpoint packet tick channel : ℕ) (sent : List Sent) → flat_map text_of (parts checkpoint packet tick channel sent) ≡ channel_chapters checkpoint packet tick sent channel
 unfolding channel_chapters
-parts_text from packet tick channel sent = simp (append_assoc, append-nil)
+parts_text checkpoint packet tick channel sent = simp (append_assoc, append-nil)
 
-parts_logs : (from packet tick channel : ℕ) (sent : List Sent) → flat_map logs_of (parts from packet tick channel sent) ≡ channel_logs from packet tick sent channel
+parts_logs : (checkpoint packet tick channel : ℕ) (sent : List Sent) → flat_map logs_of (parts checkpoint packet tick channel sent) ≡ channel_logs checkpoint packet tick sent channel
 unfolding channel_logs
-parts_logs from packet tick channel sent = simp (append_assoc, append-nil)
+parts_logs checkpoint packet tick channel sent = simp (append_assoc, append-nil)
 
-all_read : (from packet tick channel : ℕ) (sent : List Sent) → channel < 16 → AreCommands sent → KeepsLimits from (below packet_of packet sent) →
-    AllByRecursion (IsRead (channel_head from packet tick sent channel)) (parts from packet tick channel sent)
+all_read : (checkpoint packet tick channel : ℕ) (sent : List Sent) → channel < 16 → AreCommands sent → KeepsLimits checkpoint (below packet_of packet sent) →
+    AllByRecursion (IsRead (channel_head checkpoint packet tick sent channel)) (parts checkpoint packet tick channel sent)
 unfolding channel_head chapter_read
-all_read from packet tick channel sent c h limits =
-    let head = channel_head from packet tick sent channel in
-    let part = part_of from packet tick channel sent in
-    let p = part_read head (part P) refl (p_again channel from packet sent h) (p_none channel from packet sent h) in
-    let k = part_read head (part C) refl (c_again channel from packet sent h) (c_none channel from packet sent h) in
-    let m = part_read head (part M) refl (m_again channel from packet sent h (limits.params channel c)) (m_none channel from packet sent) in
-    let w = part_read head (part W) refl (w_again channel from packet sent h) (w_none channel from packet sent h) in
-    let n = part_read head (part N) refl (n_again channel from packet tick sent h) (n_none channel from packet tick sent) in
-    let e = part_read head (part E) refl (e_again channel from packet sent h) (e_none channel from packet sent h) in
-    let t = part_read head (part T) refl (t_again channel from packet sent h) (t_none channel from packet sent h) in
-    let a = part_read head (part A) refl (a_again channel from packet sent h) (a_none channel from packet sent h) in
+all_read checkpoint packet tick channel sent c h limits =
+    let head = channel_head checkpoint packet tick sent channel in
+    let part = part_of checkpoint packet tick channel sent in
+    let p = part_read head (part P) refl (p_again channel checkpoint packet sent h) (p_none channel checkpoint packet sent h) in
+    let k = part_read head (part C) refl (c_again channel checkpoint packet sent h) (c_none channel checkpoint packet sent h) in
+    let m = part_read head (part M) refl (m_again channel checkpoint packet sent h (limits.params channel c)) (m_none channel checkpoint packet sent) in
+    let w = part_read head (part W) refl (w_again channel checkpoint packet sent h) (w_none channel checkpoint packet sent h) in
+    let n = part_read head (part N) refl (n_again channel checkpoint packet tick sent h) (n_none channel checkpoint packet tick sent) in
+    let e = part_read head (part E) refl (e_again channel checkpoint packet sent h) (e_none channel checkpoint packet sent h) in
+    let t = part_read head (part T) refl (t_again channel checkpoint packet sent h) (t_none channel checkpoint packet sent h) in
+    let a = part_read head (part A) refl (a_again channel checkpoint packet sent h) (a_none channel checkpoint packet sent h) in
     (p, (k, (m, (w, (n, (e, (t, (a, tt))))))))
 
-chapters_again : (from packet tick channel : ℕ) (sent : List Sent) → channel < 16 → AreCommands sent → KeepsLimits from (below packet_of packet sent) → (place : ℕ) (before : List Log) →
-    chapters_read (channel_head from packet tick sent channel) order place before (channel_chapters from packet tick sent channel) ≡ Ok (before ++ channel_logs from packet tick sent channel)
-chapters_again from packet tick channel sent c h limits place before =
-    let head = channel_head from packet tick sent channel in
-    let all = parts from packet tick channel sent in
-    ap (λ (octets : List ℕ). chapters_read head order place before octets) (sym (parts_text from packet tick channel sent))
-    ∙ parts_read head all place before (all_read from packet tick channel sent c h limits)
-    ∙ ap (λ (logs : List Log). Ok (before ++ logs)) (parts_logs from packet tick channel sent)
+chapters_again : (checkpoint packet tick channel : ℕ) (sent : List Sent) → channel < 16 → AreCommands sent → KeepsLimits checkpoint (below packet_of packet sent) → (place : ℕ) (before : List Log) →
+    chapters_read (channel_head checkpoint packet tick sent channel) order place before (channel_chapters checkpoint packet tick sent channel) ≡ Ok (before ++ channel_logs checkpoint packet tick sent channel)
+chapters_again checkpoint packet tick channel sent c h limits place before =
+    let head = channel_head checkpoint packet tick sent channel in
+    let all = parts checkpoint packet tick channel sent in
+    ap (λ (octets : List ℕ). chapters_read head order place before octets) (sym (parts_text checkpoint packet tick channel sent))
+    ∙ parts_read head all place before (all_read checkpoint packet tick channel sent c h limits)
+    ∙ ap (λ (logs : List Log). Ok (before ++ logs)) (parts_logs checkpoint packet tick channel sent)
 
 -- ## The journal
 
-some_chapters : (from packet tick channel : ℕ) (sent : List Sent) → is_there (channel_journal from packet tick sent channel) ≡ true → 0 < length (channel_chapters from packet tick sent channel)
-some_chapters from packet tick channel sent there =
-    elim (cases_Bool (eqb (length (channel_chapters from packet tick sent channel)) 0)) [
+some_chapters : (checkpoint packet tick channel : ℕ) (sent : List Sent) → is_there (channel_journal checkpoint packet tick sent channel) ≡ true → 0 < length (channel_chapters checkpoint packet tick sent channel)
+some_chapters checkpoint packet tick channel sent there =
+    elim (cases_Bool (eqb (length (channel_chapters checkpoint packet tick sent channel)) 0)) [
       | inl t ↦
-          let none = channel_journal_none from packet tick sent channel (eqb-true (length (channel_chapters from packet tick sent channel)) 0 t) in
+          let none = channel_journal_none checkpoint packet tick sent channel (eqb-true (length (channel_chapters checkpoint packet tick sent channel)) 0 t) in
           absurd (let f : false ≡ true = rw none at there in cc)
       | inr f ↦
-          let apart : length (channel_chapters from packet tick sent channel) ≡ 0 → ⊥ = eqb-false (length (channel_chapters from packet tick sent channel)) 0 f in
+          let apart : length (channel_chapters checkpoint packet tick sent channel) ≡ 0 → ⊥ = eqb-false (length (channel_chapters checkpoint packet tick sent channel)) 0 f in
           omega arith
     ]
 
-head_fits : (from packet tick channel : ℕ) (sent : List Sent) → channel < 16 → length (channel_chapters from packet tick sent channel) ≤ 1005 → FitsChannel (channel_head from packet tick sent channel)
+head_fits : (checkpoint packet tick channel : ℕ) (sent : List Sent) → channel < 16 → length (channel_chapters checkpoint packet tick sent channel) ≤ 1005 → FitsChannel (channel_head checkpoint packet tick sent channel)
 unfolding channel_head
-head_fits from packet tick channel sent c few = (c, omega (arith, few))
+head_fits checkpoint packet tick channel sent c few = (c, omega (arith, few))
 
-head_flag : (from packet tick channel : ℕ) (sent : List Sent) → (channel_head from packet tick sent channel).h ≡ false
+head_flag : (checkpoint packet tick channel : ℕ) (sent : List Sent) → (channel_head checkpoint packet tick sent channel).h ≡ false
 unfolding channel_head
-head_flag from packet tick channel sent = refl
+head_flag checkpoint packet tick channel sent = refl
 
-head_length : (from packet tick channel : ℕ) (sent : List Sent) → (channel_head from packet tick sent channel).length ≡ 3 + length (channel_chapters from packet tick sent channel)
+head_length : (checkpoint packet tick channel : ℕ) (sent : List Sent) → (channel_head checkpoint packet tick sent channel).length ≡ 3 + length (channel_chapters checkpoint packet tick sent channel)
 unfolding channel_head
-head_length from packet tick channel sent = refl
+head_length checkpoint packet tick channel sent = refl
 
-pub channel_again : (from packet tick channel : ℕ) (sent : List Sent) → channel < 16 → AreCommands sent → KeepsLimits from (below packet_of packet sent) →
-    is_there (channel_journal from packet tick sent channel) ≡ true → (place : ℕ) (before : List Log) (rest : List ℕ) →
-    channel_read place before (channel_journal from packet tick sent channel ++ rest)
-    ≡ Ok (before ++ channel_logs from packet tick sent channel, length (channel_journal from packet tick sent channel))
-channel_again from packet tick channel sent c h limits there place before rest =
-    let head = channel_head from packet tick sent channel in
-    let chapters = channel_chapters from packet tick sent channel in
-    let after = before ++ channel_logs from packet tick sent channel in
-    let whole = channel_journal_some from packet tick sent channel (some_chapters from packet tick channel sent there) in
-    let size : head.length ≡ length (channel_octets head ++ chapters) = omega (arith, head_length from packet tick channel sent) in
+pub channel_again : (checkpoint packet tick channel : ℕ) (sent : List Sent) → channel < 16 → AreCommands sent → KeepsLimits checkpoint (below packet_of packet sent) →
+    is_there (channel_journal checkpoint packet tick sent channel) ≡ true → (place : ℕ) (before : List Log) (rest : List ℕ) →
+    channel_read place before (channel_journal checkpoint packet tick sent channel ++ rest)
+    ≡ Ok (before ++ channel_logs checkpoint packet tick sent channel, length (channel_journal checkpoint packet tick sent channel))
+channel_again checkpoint packet tick channel sent c h limits there place before rest =
+    let head = channel_head checkpoint packet tick sent channel in
+    let chapters = channel_chapters checkpoint packet tick sent channel in
+    let after = before ++ channel_logs checkpoint packet tick sent channel in
+    let whole = channel_journal_some checkpoint packet tick sent channel (some_chapters checkpoint packet tick channel sent there) in
+    let size : head.length ≡ length (channel_octets head ++ chapters) = omega (arith, head_length checkpoint packet tick channel sent) in
     ap (λ (octets : List ℕ). channel_read place before (octets ++ rest)) whole
-    ∙ headed_read head chapters rest place before after (head_fits from packet tick channel sent c (chapters_short from packet tick channel sent c h limits)) (head_flag from packet tick channel sent)
-    (head_length from packet tick channel sent) (chapters_again from packet tick channel sent c h limits (place + 3) before)
+    ∙ headed_read head chapters rest place before after (head_fits checkpoint packet tick channel sent c (chapters_short checkpoint packet tick channel sent c h limits)) (head_flag checkpoint packet tick channel sent)
+    (head_length checkpoint packet tick channel sent) (chapters_again checkpoint packet tick channel sent c h limits (place + 3) before)
     ∙ ap (λ (n : ℕ). Ok (after, n)) (size ∙ ap length (sym whole))
 
 absent : (octets : List ℕ) → length octets ≡ 0 → is_there octets ≡ false
 absent octets e = rw e refl
 
-no_chapters : (from packet tick channel : ℕ) (sent : List Sent) → is_there (channel_journal from packet tick sent channel) ≡ false → length (channel_chapters from packet tick sent channel) ≡ 0
-no_chapters from packet tick channel sent none =
-    elim (cases_Bool (eqb (length (channel_chapters from packet tick sent channel)) 0)) [
-      | inl t ↦ eqb-true (length (channel_chapters from packet tick sent channel)) 0 t
+no_chapters : (checkpoint packet tick channel : ℕ) (sent : List Sent) → is_there (channel_journal checkpoint packet tick sent channel) ≡ false → length (channel_chapters checkpoint packet tick sent channel) ≡ 0
+no_chapters checkpoint packet tick channel sent none =
+    elim (cases_Bool (eqb (length (channel_chapters checkpoint packet tick sent channel)) 0)) [
+      | inl t ↦ eqb-true (length (channel_chapters checkpoint packet tick sent channel)) 0 t
       | inr f ↦
-          let apart : length (channel_chapters from packet tick sent channel) ≡ 0 → ⊥ = eqb-false (length (channel_chapters from packet tick sent channel)) 0 f in
-          let whole = channel_journal_some from packet tick sent channel (omega arith) in
-          let few = ltb-false 0 (length (channel_journal from packet tick sent channel)) none in
+          let apart : length (channel_chapters checkpoint packet tick sent channel) ≡ 0 → ⊥ = eqb-false (length (channel_chapters checkpoint packet tick sent channel)) 0 f in
+          let whole = channel_journal_some checkpoint packet tick sent channel (omega arith) in
+          let few = ltb-false 0 (length (channel_journal checkpoint packet tick sent channel)) none in
           absurd (omega (arith, few, ap length whole))
     ]
 
-pub channel_none : (from packet tick channel : ℕ) (sent : List Sent) → AreCommands sent →
-    is_there (channel_journal from packet tick sent channel) ≡ false → channel_logs from packet tick sent channel ≡ []
+pub channel_none : (checkpoint packet tick channel : ℕ) (sent : List Sent) → AreCommands sent →
+    is_there (channel_journal checkpoint packet tick sent channel) ≡ false → channel_logs checkpoint packet tick sent channel ≡ []
 unfolding channel_logs
-channel_none from packet tick channel sent h none =
-    let nothing = no_chapters from packet tick channel sent none in
-    let total = chapters_length from packet tick sent channel in
-    let p = p_none channel from packet sent h (absent (chapter_p channel from packet sent) (omega (arith, nothing, total))) in
-    let k = c_none channel from packet sent h (absent (chapter_c channel from packet sent) (omega (arith, nothing, total))) in
-    let m = m_none channel from packet sent (absent (chapter_m channel from packet sent) (omega (arith, nothing, total))) in
-    let w = w_none channel from packet sent h (absent (chapter_w channel from packet sent) (omega (arith, nothing, total))) in
-    let n = n_none channel from packet tick sent (absent (chapter_n channel from packet tick sent) (omega (arith, nothing, total))) in
-    let e = e_none channel from packet sent h (absent (chapter_e channel from packet sent) (omega (arith, nothing, total))) in
-    let t = t_none channel from packet sent h (absent (chapter_t channel from packet sent) (omega (arith, nothing, total))) in
-    let a = a_none channel from packet sent h (absent (chapter_a channel from packet sent) (omega (arith, nothing, total))) in
+channel_none checkpoint packet tick channel sent h none =
+    let nothing = no_chapters checkpoint packet tick channel sent none in
+    let total = chapters_length checkpoint packet tick sent channel in
+    let p = p_none channel checkpoint packet sent h (absent (chapter_p channel checkpoint packet sent) (omega (arith, nothing, total))) in
+    let k = c_none channel checkpoint packet sent h (absent (chapter_c channel checkpoint packet sent) (omega (arith, nothing, total))) in
+    let m = m_none channel checkpoint packet sent (absent (chapter_m channel checkpoint packet sent) (omega (arith, nothing, total))) in
+    let w = w_none channel checkpoint packet sent h (absent (chapter_w channel checkpoint packet sent) (omega (arith, nothing, total))) in
+    let n = n_none channel checkpoint packet tick sent (absent (chapter_n channel checkpoint packet tick sent) (omega (arith, nothing, total))) in
+    let e = e_none channel checkpoint packet sent h (absent (chapter_e channel checkpoint packet sent) (omega (arith, nothing, total))) in
+    let t = t_none channel checkpoint packet sent h (absent (chapter_t channel checkpoint packet sent) (omega (arith, nothing, total))) in
+    let a = a_none channel checkpoint packet sent h (absent (chapter_a channel checkpoint packet sent) (omega (arith, nothing, total))) in
     rw (p, k, m, w, n, e, t, a) refl
 
 pub channels_are_read : ChannelsAreRead

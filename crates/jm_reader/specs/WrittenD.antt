@@ -35,11 +35,11 @@ place_said packet what place = record { fresh = is_fresh packet place; what = wh
 
 -- The latest System Reset, Tune Request and Song Select, where each is coded: how often the first two were sent, and
 -- which song the last one chose.
-unfoldable pub d_said : (from packet : ℕ) → List Sent → List Log
-d_said from packet sent =
-    map (place_said packet (λ place. logs.Reset (item_count Reset (below packet_of packet sent)))) (item_coded Reset from packet sent)
-    ++ map (place_said packet (λ place. logs.Tune (item_count Tune (below packet_of packet sent)))) (item_coded Tune from packet sent)
-    ++ map (place_said packet (λ place. logs.Song (song_of place.command))) (item_coded Song from packet sent)
+unfoldable pub d_said : (checkpoint packet : ℕ) → List Sent → List Log
+d_said checkpoint packet sent =
+    map (place_said packet (λ place. logs.Reset (item_count Reset (below packet_of packet sent)))) (item_coded Reset checkpoint packet sent)
+    ++ map (place_said packet (λ place. logs.Tune (item_count Tune (below packet_of packet sent)))) (item_coded Tune checkpoint packet sent)
+    ++ map (place_said packet (λ place. logs.Song (song_of place.command))) (item_coded Song checkpoint packet sent)
 
 -- ## The header
 
@@ -117,15 +117,15 @@ songs_small : (places : List Sent) → AllByRecursion (λ place. IsCommand place
 songs_small [] h = tt
 songs_small (x ∷ xs) h = (song-small x.command h.0, songs_small xs h.1)
 
-commands_coded : (item : SystemItem) (from packet : ℕ) (sent : List Sent) → AllByRecursion (λ place. IsCommand place.command) sent →
-    AllByRecursion (λ place. IsCommand place.command) (item_coded item from packet sent)
+commands_coded : (item : SystemItem) (checkpoint packet : ℕ) (sent : List Sent) → AllByRecursion (λ place. IsCommand place.command) sent →
+    AllByRecursion (λ place. IsCommand place.command) (item_coded item checkpoint packet sent)
 unfolding item_coded
-commands_coded item from packet sent h =
+commands_coded item checkpoint packet sent h =
     let seen = below packet_of packet sent in
     let all = AllByRecursion-filter (λ place. IsCommand place.command) (λ place. ltb (packet_of place) packet) sent h in
     let stand = AllByRecursion-standing (λ place. IsCommand place.command) (item_ends item) seen all in
-    let coded = AllByRecursion-filter (λ place. IsCommand place.command) (λ place. leb from (packet_of place)) (standing (item_ends item) seen) stand in
-    AllByRecursion-filter (λ place. IsCommand place.command) (is_place_of item) (filter (λ place. leb from (packet_of place)) (standing (item_ends item) seen)) coded
+    let coded = AllByRecursion-filter (λ place. IsCommand place.command) (λ place. leb checkpoint (packet_of place)) (standing (item_ends item) seen) stand in
+    AllByRecursion-filter (λ place. IsCommand place.command) (is_place_of item) (filter (λ place. leb checkpoint (packet_of place)) (standing (item_ends item) seen)) coded
 
 -- ## The chapter
 
@@ -160,39 +160,39 @@ flags_of : (fresh : Bool) (resets tunes songs : List ℕ) → AreFlags (d_head f
 flags_of fresh resets tunes songs = rw (head_octet fresh resets tunes songs) (flags_again fresh (any resets) (any tunes) (any songs))
 
 -- What is written of resets, tunings and songs is read as what is coded of them, whatever follows.
-pub d_again : (from packet : ℕ) (sent : List Sent) → AllByRecursion (λ place. IsCommand place.command) sent → is_there (chapter_d from packet sent) ≡ true → (rest : List ℕ) →
-    d_read (chapter_d from packet sent ++ rest) ≡ Some (d_said from packet sent, length (chapter_d from packet sent))
+pub d_again : (checkpoint packet : ℕ) (sent : List Sent) → AllByRecursion (λ place. IsCommand place.command) sent → is_there (chapter_d checkpoint packet sent) ≡ true → (rest : List ℕ) →
+    d_read (chapter_d checkpoint packet sent ++ rest) ≡ Some (d_said checkpoint packet sent, length (chapter_d checkpoint packet sent))
 unfolding chapter_d d_said
-d_again from packet sent h there rest =
-    let resets = count_logs Reset from packet sent in
-    let tunes = count_logs Tune from packet sent in
-    let songs = song_logs from packet sent in
+d_again checkpoint packet sent h there rest =
+    let resets = count_logs Reset checkpoint packet sent in
+    let tunes = count_logs Tune checkpoint packet sent in
+    let songs = song_logs checkpoint packet sent in
     let session = below packet_of packet sent in
-    let head = d_head (fresh_d from packet sent) resets tunes songs in
+    let head = d_head (fresh_d checkpoint packet sent) resets tunes songs in
     let full = headed_full head (resets ++ tunes ++ songs) there in
     rw full
     (whole_again head resets tunes songs
-    (map (place_said packet (λ place. logs.Reset (item_count Reset session))) (item_coded Reset from packet sent))
-    (map (place_said packet (λ place. logs.Tune (item_count Tune session))) (item_coded Tune from packet sent))
-    (map (place_said packet (λ place. logs.Song (song_of place.command))) (item_coded Song from packet sent)) rest
-    (flags_of (fresh_d from packet sent) resets tunes songs)
-    (one_again part.Resets packet (λ place. item_count Reset session) (item_coded Reset from packet sent) (one-coded Reset from packet sent) (all_small (item_count Reset session) (item_coded Reset from packet sent) (small Reset session)))
-    (one_again part.Tunes packet (λ place. item_count Tune session) (item_coded Tune from packet sent) (one-coded Tune from packet sent) (all_small (item_count Tune session) (item_coded Tune from packet sent) (small Tune session)))
-    (one_again part.Songs packet (λ place. song_of place.command) (item_coded Song from packet sent) (one-coded Song from packet sent) (songs_small (item_coded Song from packet sent) (commands_coded Song from packet sent h))))
+    (map (place_said packet (λ place. logs.Reset (item_count Reset session))) (item_coded Reset checkpoint packet sent))
+    (map (place_said packet (λ place. logs.Tune (item_count Tune session))) (item_coded Tune checkpoint packet sent))
+    (map (place_said packet (λ place. logs.Song (song_of place.command))) (item_coded Song checkpoint packet sent)) rest
+    (flags_of (fresh_d checkpoint packet sent) resets tunes songs)
+    (one_again part.Resets packet (λ place. item_count Reset session) (item_coded Reset checkpoint packet sent) (one-coded Reset checkpoint packet sent) (all_small (item_count Reset session) (item_coded Reset checkpoint packet sent) (small Reset session)))
+    (one_again part.Tunes packet (λ place. item_count Tune session) (item_coded Tune checkpoint packet sent) (one-coded Tune checkpoint packet sent) (all_small (item_count Tune session) (item_coded Tune checkpoint packet sent) (small Tune session)))
+    (one_again part.Songs packet (λ place. song_of place.command) (item_coded Song checkpoint packet sent) (one-coded Song checkpoint packet sent) (songs_small (item_coded Song checkpoint packet sent) (commands_coded Song checkpoint packet sent h))))
 
 not_ending : (octet : ℕ) (rest : List ℕ) → octet % 16 ≡ 0 → d_ends (octet ∷ rest) ≡ false
 not_ending octet rest e = rw e refl
 
 -- Nothing behind it is passed over.
-pub d_goes_on : (from packet : ℕ) (sent : List Sent) → is_there (chapter_d from packet sent) ≡ true → (rest : List ℕ) → d_ends (chapter_d from packet sent ++ rest) ≡ false
+pub d_goes_on : (checkpoint packet : ℕ) (sent : List Sent) → is_there (chapter_d checkpoint packet sent) ≡ true → (rest : List ℕ) → d_ends (chapter_d checkpoint packet sent ++ rest) ≡ false
 unfolding chapter_d
-d_goes_on from packet sent there rest =
-    let resets = count_logs Reset from packet sent in
-    let tunes = count_logs Tune from packet sent in
-    let songs = song_logs from packet sent in
-    let head = d_head (fresh_d from packet sent) resets tunes songs in
+d_goes_on checkpoint packet sent there rest =
+    let resets = count_logs Reset checkpoint packet sent in
+    let tunes = count_logs Tune checkpoint packet sent in
+    let songs = song_logs checkpoint packet sent in
+    let head = d_head (fresh_d checkpoint packet sent) resets tunes songs in
     let full = headed_full head (resets ++ tunes ++ songs) there in
-    rw full (not_ending head ((resets ++ tunes ++ songs) ++ rest) (flags_of (fresh_d from packet sent) resets tunes songs).others)
+    rw full (not_ending head ((resets ++ tunes ++ songs) ++ rest) (flags_of (fresh_d checkpoint packet sent) resets tunes songs).others)
 
 none_mapped : (text : Sent → ℕ) (said : Sent → Log) (places : List Sent) → map text places ≡ [] → map said places ≡ []
 none_mapped text said [] e = refl
@@ -205,27 +205,27 @@ all_empty [] (x ∷ xs) c e = absurd cc
 all_empty (x ∷ xs) b c e = absurd cc
 
 -- Where the chapter isn't there, nothing of it is coded.
-pub d_none : (from packet : ℕ) (sent : List Sent) → is_there (chapter_d from packet sent) ≡ false → d_said from packet sent ≡ []
+pub d_none : (checkpoint packet : ℕ) (sent : List Sent) → is_there (chapter_d checkpoint packet sent) ≡ false → d_said checkpoint packet sent ≡ []
 unfolding chapter_d d_said
-d_none from packet sent n =
-    let resets = count_logs Reset from packet sent in
-    let tunes = count_logs Tune from packet sent in
-    let songs = song_logs from packet sent in
+d_none checkpoint packet sent n =
+    let resets = count_logs Reset checkpoint packet sent in
+    let tunes = count_logs Tune checkpoint packet sent in
+    let songs = song_logs checkpoint packet sent in
     let session = below packet_of packet sent in
-    let parts = all_empty resets tunes songs (headed_none (d_head (fresh_d from packet sent) resets tunes songs) (resets ++ tunes ++ songs) n) in
-    let first : map (place_said packet (λ place. logs.Reset (item_count Reset session))) (item_coded Reset from packet sent) ≡ [] =
-    none_mapped (λ place. s_bit packet place + item_count Reset session) (place_said packet (λ place. logs.Reset (item_count Reset session))) (item_coded Reset from packet sent) parts.0 in
-    let second : map (place_said packet (λ place. logs.Tune (item_count Tune session))) (item_coded Tune from packet sent) ≡ [] =
-    none_mapped (λ place. s_bit packet place + item_count Tune session) (place_said packet (λ place. logs.Tune (item_count Tune session))) (item_coded Tune from packet sent) parts.1 in
-    let third : map (place_said packet (λ place. logs.Song (song_of place.command))) (item_coded Song from packet sent) ≡ [] =
-    none_mapped (λ place. s_bit packet place + song_of place.command) (place_said packet (λ place. logs.Song (song_of place.command))) (item_coded Song from packet sent) parts.2 in
+    let parts = all_empty resets tunes songs (headed_none (d_head (fresh_d checkpoint packet sent) resets tunes songs) (resets ++ tunes ++ songs) n) in
+    let first : map (place_said packet (λ place. logs.Reset (item_count Reset session))) (item_coded Reset checkpoint packet sent) ≡ [] =
+    none_mapped (λ place. s_bit packet place + item_count Reset session) (place_said packet (λ place. logs.Reset (item_count Reset session))) (item_coded Reset checkpoint packet sent) parts.0 in
+    let second : map (place_said packet (λ place. logs.Tune (item_count Tune session))) (item_coded Tune checkpoint packet sent) ≡ [] =
+    none_mapped (λ place. s_bit packet place + item_count Tune session) (place_said packet (λ place. logs.Tune (item_count Tune session))) (item_coded Tune checkpoint packet sent) parts.1 in
+    let third : map (place_said packet (λ place. logs.Song (song_of place.command))) (item_coded Song checkpoint packet sent) ≡ [] =
+    none_mapped (λ place. s_bit packet place + song_of place.command) (place_said packet (λ place. logs.Song (song_of place.command))) (item_coded Song checkpoint packet sent) parts.2 in
     rw (first, second, third) refl
 
 pub record ResetsAreRead : Type 0 where
-  pub there : (from packet : ℕ) (sent : List Sent) → AllByRecursion (λ place. IsCommand place.command) sent → is_there (chapter_d from packet sent) ≡ true → (rest : List ℕ) →
-      d_read (chapter_d from packet sent ++ rest) ≡ Some (d_said from packet sent, length (chapter_d from packet sent))
-  pub goes_on : (from packet : ℕ) (sent : List Sent) → is_there (chapter_d from packet sent) ≡ true → (rest : List ℕ) → d_ends (chapter_d from packet sent ++ rest) ≡ false
-  pub none : (from packet : ℕ) (sent : List Sent) → is_there (chapter_d from packet sent) ≡ false → d_said from packet sent ≡ []
+  pub there : (checkpoint packet : ℕ) (sent : List Sent) → AllByRecursion (λ place. IsCommand place.command) sent → is_there (chapter_d checkpoint packet sent) ≡ true → (rest : List ℕ) →
+      d_read (chapter_d checkpoint packet sent ++ rest) ≡ Some (d_said checkpoint packet sent, length (chapter_d checkpoint packet sent))
+  pub goes_on : (checkpoint packet : ℕ) (sent : List Sent) → is_there (chapter_d checkpoint packet sent) ≡ true → (rest : List ℕ) → d_ends (chapter_d checkpoint packet sent ++ rest) ≡ false
+  pub none : (checkpoint packet : ℕ) (sent : List Sent) → is_there (chapter_d checkpoint packet sent) ≡ false → d_said checkpoint packet sent ≡ []
 
 pub resets_are_read : ResetsAreRead
 resets_are_read = record { there = d_again; goes_on = d_goes_on; none = d_none }

@@ -38,9 +38,9 @@ code_said fresh None = []
 code_said fresh (Some code) = code_log fresh code ∷ []
 
 -- What quarter frames have spelled, where the latest of them is coded.
-unfoldable pub f_said : (from packet : ℕ) → List Sent → List Log
-f_said from packet sent =
-    flat_map (λ place. code_said (is_fresh packet place) (time_code_after (below packet_of packet sent))) (item_coded Frames from packet sent)
+unfoldable pub f_said : (checkpoint packet : ℕ) → List Sent → List Log
+f_said checkpoint packet sent =
+    flat_map (λ place. code_said (is_fresh packet place) (time_code_after (below packet_of packet sent))) (item_coded Frames checkpoint packet sent)
 
 -- ## The words have 32 bits
 
@@ -178,35 +178,35 @@ alone_again fresh code rest p f =
 -- ## The chapter
 
 -- What is written of time code is read as what is coded of it, whatever follows.
-pub f_again : (from packet : ℕ) (sent : List Sent) → AllByRecursion (λ place. IsCommand place.command) sent → is_there (chapter_f from packet sent) ≡ true → (rest : List ℕ) →
-    f_read (chapter_f from packet sent ++ rest) ≡ Some (f_said from packet sent, length (chapter_f from packet sent))
+pub f_again : (checkpoint packet : ℕ) (sent : List Sent) → AllByRecursion (λ place. IsCommand place.command) sent → is_there (chapter_f checkpoint packet sent) ≡ true → (rest : List ℕ) →
+    f_read (chapter_f checkpoint packet sent ++ rest) ≡ Some (f_said checkpoint packet sent, length (chapter_f checkpoint packet sent))
 unfolding chapter_f f_said
-f_again from packet sent h there rest =
-    elim (one-coded Frames from packet sent) [
-      | none e ↦ absurd (let empty : is_there (chapter_f from packet sent) ≡ false = rw e refl in cc)
+f_again checkpoint packet sent h there rest =
+    elim (one-coded Frames checkpoint packet sent) [
+      | none e ↦ absurd (let empty : is_there (chapter_f checkpoint packet sent) ≡ false = rw e refl in cc)
       | one x e ↦
-          let state = value_of (time_code_after (below packet_of packet sent)) (time_code_there from packet sent x [] e) in
+          let state = value_of (time_code_after (below packet_of packet sent)) (time_code_there checkpoint packet sent x [] e) in
           let bound = IsTimeCode-after packet sent h in
           let fits = fits-after (below packet_of packet sent) in
           rw (e, state.is) (alone_again (is_fresh packet x) state.value rest (rw state.is at bound) (rw state.is at fits))
     ]
 
 -- Where the chapter isn't there, nothing of it is coded.
-pub f_none : (from packet : ℕ) (sent : List Sent) → is_there (chapter_f from packet sent) ≡ false → f_said from packet sent ≡ []
+pub f_none : (checkpoint packet : ℕ) (sent : List Sent) → is_there (chapter_f checkpoint packet sent) ≡ false → f_said checkpoint packet sent ≡ []
 unfolding chapter_f f_said
-f_none from packet sent n =
-    elim (one-coded Frames from packet sent) [
+f_none checkpoint packet sent n =
+    elim (one-coded Frames checkpoint packet sent) [
       | none e ↦ rw e refl
       | one x e ↦
-          let state = value_of (time_code_after (below packet_of packet sent)) (time_code_there from packet sent x [] e) in
+          let state = value_of (time_code_after (below packet_of packet sent)) (time_code_there checkpoint packet sent x [] e) in
           let words = (word_octets state.value.complete ++ word_octets state.value.partial) ++ [] in
-          absurd (let some : is_there (chapter_f from packet sent) ≡ true = rw (e, state.is) (lt-ltb 0 (suc (length words)) (omega arith)) in cc)
+          absurd (let some : is_there (chapter_f checkpoint packet sent) ≡ true = rw (e, state.is) (lt-ltb 0 (suc (length words)) (omega arith)) in cc)
     ]
 
 pub record TimeCodeIsRead : Type 0 where
-  pub there : (from packet : ℕ) (sent : List Sent) → AllByRecursion (λ place. IsCommand place.command) sent → is_there (chapter_f from packet sent) ≡ true → (rest : List ℕ) →
-      f_read (chapter_f from packet sent ++ rest) ≡ Some (f_said from packet sent, length (chapter_f from packet sent))
-  pub none : (from packet : ℕ) (sent : List Sent) → is_there (chapter_f from packet sent) ≡ false → f_said from packet sent ≡ []
+  pub there : (checkpoint packet : ℕ) (sent : List Sent) → AllByRecursion (λ place. IsCommand place.command) sent → is_there (chapter_f checkpoint packet sent) ≡ true → (rest : List ℕ) →
+      f_read (chapter_f checkpoint packet sent ++ rest) ≡ Some (f_said checkpoint packet sent, length (chapter_f checkpoint packet sent))
+  pub none : (checkpoint packet : ℕ) (sent : List Sent) → is_there (chapter_f checkpoint packet sent) ≡ false → f_said checkpoint packet sent ≡ []
 
 pub time_code_is_read : TimeCodeIsRead
 time_code_is_read = record { there = f_again; none = f_none }

@@ -24,34 +24,34 @@ use Rattle.jm_reader.specs.WrittenParts.{nothing}
 use Rattle.jm_reader.specs.WrittenChannel.{channel_logs, channel_again, channel_none}
 
 -- the logs of all channels, ascending
-abbrev pub channels_logs : (from packet tick : ℕ) → List Sent → List Log
-channels_logs from packet tick sent = flat_map (channel_logs from packet tick sent) channels
+abbrev pub channels_logs : (checkpoint packet tick : ℕ) → List Sent → List Log
+channels_logs checkpoint packet tick sent = flat_map (channel_logs checkpoint packet tick sent) channels
 
 -- The logs of the journal of a packet: those of the system journal, then those of the channels.
-unfoldable pub journal_logs : (from packet tick : ℕ) → List Sent → List Log
-journal_logs from packet tick sent = system_logs from packet sent ++ channels_logs from packet tick sent
+unfoldable pub journal_logs : (checkpoint packet tick : ℕ) → List Sent → List Log
+journal_logs checkpoint packet tick sent = system_logs checkpoint packet sent ++ channels_logs checkpoint packet tick sent
 
 -- ## The channels
 
-module _ (from packet tick : ℕ) (sent : List Sent) (h : AreCommands sent) (limits : KeepsLimits from (below packet_of packet sent)) where
+module _ (checkpoint packet tick : ℕ) (sent : List Sent) (h : AreCommands sent) (limits : KeepsLimits checkpoint (below packet_of packet sent)) where
   abbrev text : ℕ → List ℕ
-  text channel = channel_journal from packet tick sent channel
+  text channel = channel_journal checkpoint packet tick sent channel
 
   abbrev logs : ℕ → List Log
-  logs channel = channel_logs from packet tick sent channel
+  logs channel = channel_logs checkpoint packet tick sent channel
 
   abbrev count_of : List ℕ → ℕ
-  count_of cs = sum (map (journal_at from packet tick sent) cs)
+  count_of cs = sum (map (journal_at checkpoint packet tick sent) cs)
 
-  counted : (channel : ℕ) (later : List ℕ) → count_of (channel ∷ later) ≡ journal_at from packet tick sent channel + count_of later
-  counted channel later = sum_by-cons (λ (n : ℕ). n) (journal_at from packet tick sent channel) (map (journal_at from packet tick sent) later)
+  counted : (channel : ℕ) (later : List ℕ) → count_of (channel ∷ later) ≡ journal_at checkpoint packet tick sent channel + count_of later
+  counted channel later = sum_by-cons (λ (n : ℕ). n) (journal_at checkpoint packet tick sent channel) (map (journal_at checkpoint packet tick sent) later)
 
   one_read : (channel count place : ℕ) (before : List Log) (octets : List ℕ) → channel < 16 → is_there (text channel) ≡ true →
       channels_read (suc count) place before (text channel ++ octets) ≡ channels_read count (place + length (text channel)) (before ++ logs channel) octets
   unfolding channels_read
   one_read channel count place before octets c there =
       ap (λ (read : Result (List Log × ℕ) JournalFault). behind_journal read (λ used. channels_read count (place + used.1) used.0 (drop used.1 (text channel ++ octets))))
-      (channel_again from packet tick channel sent c h limits there place before octets)
+      (channel_again checkpoint packet tick channel sent c h limits there place before octets)
       ∙ ap (channels_read count (place + length (text channel)) (before ++ logs channel)) (drop-append_seam (text channel) octets)
 
   channels_again : (cs : List ℕ) → AllByRecursion (λ channel. channel < 16) cs → (place : ℕ) (before : List Log) (rest : List ℕ) →
@@ -73,7 +73,7 @@ module _ (from packet tick : ℕ) (sent : List Sent) (h : AreCommands sent) (lim
             ap (λ (n : ℕ). channels_read n place before ((text c ++ flat_map text cs) ++ rest)) number
             ∙ ap (λ (t : List ℕ). channels_read (count_of cs) place before ((t ++ flat_map text cs) ++ rest)) (nothing (text c) f)
             ∙ channels_again cs few.1 place before rest
-            ∙ ap (λ (l : List Log). Ok (before ++ (l ++ flat_map logs cs))) (sym (channel_none from packet tick c sent h f))
+            ∙ ap (λ (l : List Log). Ok (before ++ (l ++ flat_map logs cs))) (sym (channel_none checkpoint packet tick c sent h f))
       ]
 
 -- ## How many
@@ -90,20 +90,20 @@ at_most : (b : Bool) (n m : ℕ) → n ≤ m → cond b 1 0 + n ≤ suc m
 at_most true n m l = omega arith
 at_most false n m l = omega arith
 
-count_few : (from packet tick : ℕ) (sent : List Sent) (cs : List ℕ) → sum (map (journal_at from packet tick sent) cs) ≤ length cs
-count_few from packet tick sent [] = omega arith
-count_few from packet tick sent (c ∷ cs) =
-    let more = sum_by-cons (λ (n : ℕ). n) (journal_at from packet tick sent c) (map (journal_at from packet tick sent) cs) in
-    let one = at_most (is_there (channel_journal from packet tick sent c)) (sum (map (journal_at from packet tick sent) cs)) (length cs) (count_few from packet tick sent cs) in
+count_few : (checkpoint packet tick : ℕ) (sent : List Sent) (cs : List ℕ) → sum (map (journal_at checkpoint packet tick sent) cs) ≤ length cs
+count_few checkpoint packet tick sent [] = omega arith
+count_few checkpoint packet tick sent (c ∷ cs) =
+    let more = sum_by-cons (λ (n : ℕ). n) (journal_at checkpoint packet tick sent c) (map (journal_at checkpoint packet tick sent) cs) in
+    let one = at_most (is_there (channel_journal checkpoint packet tick sent c)) (sum (map (journal_at checkpoint packet tick sent) cs)) (length cs) (count_few checkpoint packet tick sent cs) in
     omega (arith, more, one)
 
 channel_number : length channels ≡ 16
 unfolding channels_from
 channel_number = refl
 
-head_fits : (from packet tick : ℕ) (sent : List Sent) → FitsJournal (journal_head from packet tick sent)
+head_fits : (checkpoint packet tick : ℕ) (sent : List Sent) → FitsJournal (journal_head checkpoint packet tick sent)
 unfolding journal_head
-head_fits from packet tick sent = omega (arith, count_few from packet tick sent channels, channel_number)
+head_fits checkpoint packet tick sent = omega (arith, count_few checkpoint packet tick sent channels, channel_number)
 
 told_count : (n : ℕ) → cond (ltb 0 n) (n - 1 + 1) 0 ≡ n
 told_count n = elim (cases_Bool (ltb 0 n)) [
@@ -111,38 +111,38 @@ told_count n = elim (cases_Bool (ltb 0 n)) [
   | inr f ↦ let none = ltb-false 0 n f in rw f (omega (arith, none))
 ]
 
-head_count : (from packet tick : ℕ) (sent : List Sent) → channel_count (journal_head from packet tick sent) ≡ journal_count from packet tick sent
+head_count : (checkpoint packet tick : ℕ) (sent : List Sent) → channel_count (journal_head checkpoint packet tick sent) ≡ journal_count checkpoint packet tick sent
 unfolding journal_head
-head_count from packet tick sent = told_count (journal_count from packet tick sent)
+head_count checkpoint packet tick sent = told_count (journal_count checkpoint packet tick sent)
 
 -- ## The journal
 
-flagged_again : (from packet tick : ℕ) (sent : List Sent) → AreCommands sent → KeepsLimits from (below packet_of packet sent) → (rest : List ℕ) →
-    flagged_system (journal_head from packet tick sent) (system_journal from packet sent ++ rest) ≡ Ok (system_logs from packet sent, length (system_journal from packet sent))
+flagged_again : (checkpoint packet tick : ℕ) (sent : List Sent) → AreCommands sent → KeepsLimits checkpoint (below packet_of packet sent) → (rest : List ℕ) →
+    flagged_system (journal_head checkpoint packet tick sent) (system_journal checkpoint packet sent ++ rest) ≡ Ok (system_logs checkpoint packet sent, length (system_journal checkpoint packet sent))
 unfolding journal_head
-flagged_again from packet tick sent h limits rest =
-    elim (cases_Bool (is_there (system_journal from packet sent))) [
-      | inl t ↦ rw t (system_again from packet sent h limits.octets t 3 [] rest)
-      | inr f ↦ rw (f, nothing (system_journal from packet sent) f, system_none from packet sent f) refl
+flagged_again checkpoint packet tick sent h limits rest =
+    elim (cases_Bool (is_there (system_journal checkpoint packet sent))) [
+      | inl t ↦ rw t (system_again checkpoint packet sent h limits.octets t 3 [] rest)
+      | inr f ↦ rw (f, nothing (system_journal checkpoint packet sent) f, system_none checkpoint packet sent f) refl
     ]
 
-head_checkpoint : (from packet tick : ℕ) (sent : List Sent) → (journal_head from packet tick sent).checkpoint ≡ from % 65536
+head_checkpoint : (checkpoint packet tick : ℕ) (sent : List Sent) → (journal_head checkpoint packet tick sent).checkpoint ≡ checkpoint % 65536
 unfolding journal_head
-head_checkpoint from packet tick sent = refl
+head_checkpoint checkpoint packet tick sent = refl
 
-logs_again : (from packet tick : ℕ) (sent : List Sent) → AreCommands sent → KeepsLimits from (below packet_of packet sent) → (rest : List ℕ) →
-    logs_read (journal_head from packet tick sent) (system_journal from packet sent ++ (flat_map (channel_journal from packet tick sent) channels ++ rest)) ≡ Ok (journal_logs from packet tick sent)
+logs_again : (checkpoint packet tick : ℕ) (sent : List Sent) → AreCommands sent → KeepsLimits checkpoint (below packet_of packet sent) → (rest : List ℕ) →
+    logs_read (journal_head checkpoint packet tick sent) (system_journal checkpoint packet sent ++ (flat_map (channel_journal checkpoint packet tick sent) channels ++ rest)) ≡ Ok (journal_logs checkpoint packet tick sent)
 unfolding journal_logs
-logs_again from packet tick sent h limits rest =
-    let head = journal_head from packet tick sent in
-    let system = system_journal from packet sent in
-    let logs = system_logs from packet sent in
-    let others = flat_map (channel_journal from packet tick sent) channels ++ rest in
+logs_again checkpoint packet tick sent h limits rest =
+    let head = journal_head checkpoint packet tick sent in
+    let system = system_journal checkpoint packet sent in
+    let logs = system_logs checkpoint packet sent in
+    let others = flat_map (channel_journal checkpoint packet tick sent) channels ++ rest in
     ap (λ (read : Result (List Log × ℕ) JournalFault). behind_journal read (λ used. channels_read (channel_count head) (3 + used.1) used.0 (drop used.1 (system ++ others))))
-    (flagged_again from packet tick sent h limits others)
-    ∙ ap (λ (n : ℕ). channels_read n (3 + length system) logs (drop (length system) (system ++ others))) (head_count from packet tick sent)
-    ∙ ap (channels_read (journal_count from packet tick sent) (3 + length system) logs) (drop-append_seam system others)
-    ∙ channels_again from packet tick sent h limits channels channels_few (3 + length system) logs rest
+    (flagged_again checkpoint packet tick sent h limits others)
+    ∙ ap (λ (n : ℕ). channels_read n (3 + length system) logs (drop (length system) (system ++ others))) (head_count checkpoint packet tick sent)
+    ∙ ap (channels_read (journal_count checkpoint packet tick sent) (3 + length system) logs) (drop-append_seam system others)
+    ∙ channels_again checkpoint packet tick sent h limits channels channels_few (3 + length system) logs rest
 
 headed : (head : JournalHead) (octets : List ℕ) → FitsJournal head → journal_read (journal_octets head ++ octets) ≡ reported head (logs_read head octets)
 unfolding journal_read
@@ -152,22 +152,22 @@ regroup : (a b c d : List ℕ) → ((a ++ b) ++ c) ++ d ≡ a ++ (b ++ (c ++ d))
 regroup a b c d = simp append_assoc
 
 -- The journal of a packet is read as the checkpoint's low 16 bits and its logs, whatever octets follow.
-pub journal_again : (from packet tick : ℕ) (sent : List Sent) → AreCommands sent → KeepsLimits from (below packet_of packet sent) → (rest : List ℕ) →
-    journal_read (journal from packet tick sent ++ rest) ≡ Ok (record { checkpoint = from % 65536; logs = journal_logs from packet tick sent })
+pub journal_again : (checkpoint packet tick : ℕ) (sent : List Sent) → AreCommands sent → KeepsLimits checkpoint (below packet_of packet sent) → (rest : List ℕ) →
+    journal_read (journal checkpoint packet tick sent ++ rest) ≡ Ok (record { checkpoint = checkpoint % 65536; logs = journal_logs checkpoint packet tick sent })
 unfolding journal
-journal_again from packet tick sent h limits rest =
-    let head = journal_head from packet tick sent in
-    let system = system_journal from packet sent in
-    let others = flat_map (channel_journal from packet tick sent) channels in
+journal_again checkpoint packet tick sent h limits rest =
+    let head = journal_head checkpoint packet tick sent in
+    let system = system_journal checkpoint packet sent in
+    let others = flat_map (channel_journal checkpoint packet tick sent) channels in
     ap journal_read (regroup (journal_octets head) system others rest)
-    ∙ headed head (system ++ (others ++ rest)) (head_fits from packet tick sent)
-    ∙ ap (reported head) (logs_again from packet tick sent h limits rest)
-    ∙ ap (λ (n : ℕ). reported (record head { checkpoint = n }) (Ok (journal_logs from packet tick sent))) (head_checkpoint from packet tick sent)
+    ∙ headed head (system ++ (others ++ rest)) (head_fits checkpoint packet tick sent)
+    ∙ ap (reported head) (logs_again checkpoint packet tick sent h limits rest)
+    ∙ ap (λ (n : ℕ). reported (record head { checkpoint = n }) (Ok (journal_logs checkpoint packet tick sent))) (head_checkpoint checkpoint packet tick sent)
 
 -- What is read of a written journal.
 pub record JournalsAreRead : Type 0 where
-  pub again : (from packet tick : ℕ) (sent : List Sent) → AreCommands sent → KeepsLimits from (below packet_of packet sent) → (rest : List ℕ) →
-      journal_read (journal from packet tick sent ++ rest) ≡ Ok (record { checkpoint = from % 65536; logs = journal_logs from packet tick sent })
+  pub again : (checkpoint packet tick : ℕ) (sent : List Sent) → AreCommands sent → KeepsLimits checkpoint (below packet_of packet sent) → (rest : List ℕ) →
+      journal_read (journal checkpoint packet tick sent ++ rest) ≡ Ok (record { checkpoint = checkpoint % 65536; logs = journal_logs checkpoint packet tick sent })
 
 pub journals_are_read : JournalsAreRead
 journals_are_read = record { again = journal_again }

@@ -21,7 +21,7 @@ use Rattle.ch_notes.specs.declared.events.NoteEvent.{NoteEvent}
 use Rattle.ch_notes.specs.declared.events.NoteEvent.TheVariants.{Struck, Released, Cleared, Other}
 use Rattle.ch_notes.specs.NoteEvent.{event_at, note_ends, IsWithin, AreWithin}
 use Rattle.ch_notes.specs.Shape.{counted, no_notes}
-use Rattle.ch_notes.specs.ChapterN.{is_struck, is_released, event_log, note_log, log_count, released, low_octet, high_octet, off_octets, chapter_of, coded_notes, chapter_n, off_octet as bits_of}
+use Rattle.ch_notes.specs.ChapterN.{is_struck, is_released, event_log, note_log, log_count, released, released_fresh, low_octet, high_octet, off_octets, chapter_of, coded_notes, chapter_n, off_octet as bits_of}
 use Rattle.ch_notes.specs.Count.{IsCount}
 use Rattle.ch_notes.specs.CountLaws.{counted-logs, counted-off, counted-low, counted-high}
 use Rattle.ch_notes.specs.CountBounds.{IsCount-unended}
@@ -45,29 +45,25 @@ struck_log channel fresh soon Cleared = []
 struck_log channel fresh soon Other = []
 
 -- the log of a place, where it is a struck note: it is worth playing while it is at most 2,000 ticks old
-abbrev pub struck_said : ℕ → ℕ → ℕ → Sent → List Log
+abbrev pub struck_said : (channel packet tick : ℕ) → Sent → List Log
 struck_said channel packet tick place = struck_log channel (is_fresh packet place) (nat_le tick (place.tick + 2000)) (event_at channel place)
 
 abbrev pub has_note : List ℕ → ℕ → Bool
 has_note notes note = list_any (λ n. n == note) notes
 
-abbrev pub released_log : ℕ → Bool → List ℕ → ℕ → List Log
+abbrev pub released_log : (channel : ℕ) → (fresh : Bool) → List ℕ → (note : ℕ) → List Log
 released_log channel fresh notes note = if has_note notes note then record { fresh = fresh; what = NoteOff channel note } ∷ [] else []
 
 -- the released notes, in the order of their numbers
 unfoldable pub released_said : ℕ → Bool → List ℕ → List Log
 released_said channel fresh notes = flat_map (released_log channel fresh notes) (range_with_len 0 128)
 
--- whether one of them is of the packet before
-abbrev pub released_fresh : ℕ → ℕ → List Sent → Bool
-released_fresh channel packet places = list_any (λ place. is_released (event_at channel place) && is_fresh packet place) places
-
-abbrev pub notes_said : ℕ → ℕ → ℕ → List Sent → List Log
+abbrev pub notes_said : (channel packet tick : ℕ) → List Sent → List Log
 notes_said channel packet tick places =
     released_said channel (released_fresh channel packet places) (released channel places) ++ flat_map (struck_said channel packet tick) places
 
 -- The coded notes of a channel as logs: the released ones, then the struck ones, oldest first.
-unfoldable pub n_said : ℕ → ℕ → ℕ → ℕ → List Sent → List Log
+unfoldable pub n_said : (channel checkpoint packet tick : ℕ) → List Sent → List Log
 n_said channel checkpoint packet tick sent = notes_said channel packet tick (coded_notes channel checkpoint packet sent)
 
 -- ## Struck notes
@@ -155,9 +151,9 @@ octets_again channel fresh notes k (suc n) =
     let joined : off_octet channel fresh (8 * k) (bits_of notes k) ++ off_logs channel fresh (8 * k + 8) (map (bits_of notes) (range_with_len (k + 1) n))
     ≡ flat_map one (range_with_len (8 * k) 8) ++ flat_map one (range_with_len (8 * k + 8) (8 * n)) =
     ap (λ (first : List Log). first ++ off_logs channel fresh (8 * k + 8) (map (bits_of notes) (range_with_len (k + 1) n))) (octet_again channel fresh notes k)
-    ∙ ap (λ (from : ℕ). flat_map one (range_with_len (8 * k) 8) ++ off_logs channel fresh from (map (bits_of notes) (range_with_len (k + 1) n))) next
+    ∙ ap (λ (checkpoint : ℕ). flat_map one (range_with_len (8 * k) 8) ++ off_logs channel fresh checkpoint (map (bits_of notes) (range_with_len (k + 1) n))) next
     ∙ ap (λ (rest : List Log). flat_map one (range_with_len (8 * k) 8) ++ rest) more
-    ∙ ap (λ (from : ℕ). flat_map one (range_with_len (8 * k) 8) ++ flat_map one (range_with_len from (8 * n))) (sym next) in
+    ∙ ap (λ (checkpoint : ℕ). flat_map one (range_with_len (8 * k) 8) ++ flat_map one (range_with_len checkpoint (8 * n))) (sym next) in
     joined
     ∙ sym (flat_map-append one (range_with_len (8 * k) 8) (range_with_len (8 * k + 8) (8 * n)))
     ∙ ap (flat_map one) (sym (range-append (8 * k) 8 (8 * n)))
@@ -206,7 +202,7 @@ three one a b c whole w front back =
     ∙ ap (flat_map one) (range-append 0 a (b + c))
     ∙ flat_map-append one (range_with_len 0 a) (range_with_len (0 + a) (b + c))
     ∙ ap (λ (first : List Log). first ++ flat_map one (range_with_len (0 + a) (b + c))) front
-    ∙ ap (λ (from : ℕ). flat_map one (range_with_len from (b + c))) same
+    ∙ ap (λ (checkpoint : ℕ). flat_map one (range_with_len checkpoint (b + c))) same
     ∙ ap (flat_map one) (range-append a b c)
     ∙ flat_map-append one (range_with_len a b) (range_with_len (a + b) c)
     ∙ ap (λ (last : List Log). flat_map one (range_with_len a b) ++ last) back
@@ -296,10 +292,6 @@ fits_again fresh count off low high k =
       | inr f ↦ rw f (omega arith, omega (arith, k.low_few), omega (arith, k.high_few))
     ]
 
-first_again : (fresh : Bool) (count : ℕ) → 128 * bit (not fresh) + min 127 count ≡ cond fresh 0 128 + min 127 count
-first_again true count = refl
-first_again false count = refl
-
 -- ## The chapter
 
 -- what stands behind a header
@@ -312,7 +304,7 @@ head_again channel head rest f = ap (λ (h : NoteHead). by_head channel h rest) 
 
 -- a chapter of these numbers, lines and bits
 text : Bool → ℕ → ℕ → ℕ → ℕ → List ℕ → List ℕ
-text fresh count off low high behind = (cond fresh 0 128 + min 127 count) ∷ (16 * low + high_of count off high) ∷ behind
+text fresh count off low high behind = note_octets (header fresh count off low high) ++ behind
 
 double_not : (b : Bool) → not (not b) ≡ b
 double_not true = refl
@@ -331,8 +323,7 @@ text_again channel fresh count off low high lines bits rest k l b =
     let front : take (2 * count) behind ≡ lines = rw (← l) (take-append_seam lines (bits ++ rest)) in
     let back : drop (2 * count) behind ≡ bits ++ rest = rw (← l) (drop-append_seam lines (bits ++ rest)) in
     let middle : take (high + 1 - low) (bits ++ rest) ≡ bits = rw (← b) (take-append_seam bits rest) in
-    ap (λ (first : ℕ). n_read channel (first ∷ (16 * low + high_of count off high) ∷ behind)) (sym (first_again fresh count))
-    ∙ head_again channel head behind (fits_again fresh count off low high k)
+    head_again channel head behind (fits_again fresh count off low high k)
     ∙ rw (counted, span, enough, front, back, middle, double_not fresh) refl
 
 -- the logs and their octets in the end
@@ -340,7 +331,7 @@ chapter_again : (channel packet tick : ℕ) (places : List Sent) (rest : List �
     AreNumbers (log_count channel places) (length (released channel places)) (low_octet (released channel places)) (high_octet (released channel places)) →
     is_there (chapter_of channel packet tick places) ≡ true →
     n_read channel (chapter_of channel packet tick places ++ rest) ≡ Some (notes_said channel packet tick places, length (chapter_of channel packet tick places))
-unfolding text high_of
+unfolding text header high_of
 chapter_again channel packet tick places rest w k there =
     let notes = released channel places in
     let count = log_count channel places in

@@ -58,8 +58,8 @@ one_none P item touches text said read s (x ∷ xs) e =
     ]
 
 -- what holds of all places holds of the coded ones, and of those before a packet
-pub all_coded : {X : Type 0} (P : X → Type 0) (ends : X → X → Bool) (at : X → ℕ) (from : ℕ) (xs : List X) → AllByRecursion P xs → AllByRecursion P (coded ends at from xs)
-all_coded P ends at from xs h = AllByRecursion-filter P (λ x. leb from (at x)) (standing ends xs) (AllByRecursion-standing P ends xs h)
+pub all_coded : {X : Type 0} (P : X → Type 0) (ends : X → X → Bool) (at : X → ℕ) (checkpoint : ℕ) (xs : List X) → AllByRecursion P xs → AllByRecursion P (coded ends at checkpoint xs)
+all_coded P ends at checkpoint xs h = AllByRecursion-filter P (λ x. leb checkpoint (at x)) (standing ends xs) (AllByRecursion-standing P ends xs h)
 
 pub all_below : (P : Sent → Type 0) (packet : ℕ) (sent : List Sent) → AllByRecursion P sent → AllByRecursion P (below packet_of packet sent)
 all_below P packet sent h = AllByRecursion-filter P (λ x. ltb (packet_of x) packet) sent h

@@ -43,12 +43,12 @@ program_said channel fresh bank SetBack = []
 program_said channel fresh bank Reset = []
 program_said channel fresh bank Other = []
 
-abbrev pub place_said : ℕ → ℕ → Banked → List Log
+abbrev pub place_said : (channel packet : ℕ) → Banked → List Log
 place_said channel packet place = program_said channel (is_fresh packet place.1) place.0 (banked_event channel place)
 
 -- the logs of Chapter P of this channel in the journal of this packet
-unfoldable pub p_said : (channel from packet : ℕ) → List Sent → List Log
-p_said channel from packet sent = flat_map (place_said channel packet) (coded_program channel from packet sent)
+unfoldable pub p_said : (channel checkpoint packet : ℕ) → List Sent → List Log
+p_said channel checkpoint packet sent = flat_map (place_said channel packet) (coded_program channel checkpoint packet sent)
 
 -- ## Events and banks within their bounds
 
@@ -179,22 +179,22 @@ says channel packet = record {
   touching = λ x h. touching (banked_event channel x) h;
 }
 
-pub p_again : (channel from packet : ℕ) (sent : List Sent) → AreCommands sent → is_there (chapter_p channel from packet sent) ≡ true → (rest : List ℕ) →
-    p_read channel (chapter_p channel from packet sent ++ rest) ≡ Some (p_said channel from packet sent, length (chapter_p channel from packet sent))
+pub p_again : (channel checkpoint packet : ℕ) (sent : List Sent) → AreCommands sent → is_there (chapter_p channel checkpoint packet sent) ≡ true → (rest : List ℕ) →
+    p_read channel (chapter_p channel checkpoint packet sent ++ rest) ≡ Some (p_said channel checkpoint packet sent, length (chapter_p channel checkpoint packet sent))
 unfolding chapter_p p_said
-p_again channel from packet sent h there rest =
+p_again channel checkpoint packet sent h there rest =
     let seen = below packet_of packet sent in
     let places = scanned (bank_step channel) no_bank seen in
     let fits = AllByRecursion-weaker (λ (place : Sent). IsCommand place.command) (λ place. Fits (program_at channel place)) (λ place b. fits_event channel place.command b) sent h in
     let fits_seen = all_below (λ place. Fits (program_at channel place)) packet sent fits in
     one_again (fits_at channel) (item_at channel) (touches_at channel) (program_log channel packet) (place_said channel packet) (p_read channel) (says channel packet)
-    (coded_program channel from packet sent) (Unended-coded (program_ends channel) banked_packet from places)
-    (all_coded (fits_at channel) (program_ends channel) banked_packet from places (fits_scanned channel no_bank seen (tt, tt) fits_seen)) there rest
+    (coded_program channel checkpoint packet sent) (Unended-coded (program_ends channel) banked_packet checkpoint places)
+    (all_coded (fits_at channel) (program_ends channel) banked_packet checkpoint places (fits_scanned channel no_bank seen (tt, tt) fits_seen)) there rest
 
-pub p_none : (channel from packet : ℕ) (sent : List Sent) → AreCommands sent → is_there (chapter_p channel from packet sent) ≡ false → p_said channel from packet sent ≡ []
+pub p_none : (channel checkpoint packet : ℕ) (sent : List Sent) → AreCommands sent → is_there (chapter_p channel checkpoint packet sent) ≡ false → p_said channel checkpoint packet sent ≡ []
 unfolding chapter_p p_said
-p_none channel from packet sent h none =
-    one_none (fits_at channel) (item_at channel) (touches_at channel) (program_log channel packet) (place_said channel packet) (p_read channel) (says channel packet) (coded_program channel from packet sent) none
+p_none channel checkpoint packet sent h none =
+    one_none (fits_at channel) (item_at channel) (touches_at channel) (program_log channel packet) (place_said channel packet) (p_read channel) (says channel packet) (coded_program channel checkpoint packet sent) none
 
 pub p_is_read : ChapterIsRead chapter_p p_said (λ channel octets. p_read channel octets)
 p_is_read = record { again = p_again; none = p_none }

@@ -9,8 +9,8 @@ use Rattle.jm_wire.specs.HeadLaws.{channel_back}
 use Rattle.jm_journal.specs.Channel.{is_there}
 use Rattle.jm_reader.specs.declared.channel.ChannelChapter.{ChannelChapter}
 use Rattle.jm_reader.specs.declared.logs.Log.{Log}
-use Rattle.jm_reader.specs.Chapter.{Chapter, chapter}
-use Rattle.jm_reader.specs.ChannelJournal.{is_flagged, chapter_read, flagged_read, order, behind_chapter, chapters_read, sized, head_read, inside_read, with_length, behind_head, channel_read}
+use Rattle.jm_reader.specs.Chapter.{Chapter, chapter, with_size}
+use Rattle.jm_reader.specs.ChannelJournal.{is_flagged, chapter_read, flagged_read, order, behind_chapter, chapters_read, sized, head_read, inside_read, behind_head, channel_read}
 
 -- a chapter, its octets, and its logs
 pub record Part : Type 0 where
@@ -73,5 +73,5 @@ headed_read head chapters rest place before after fits no_h size read =
     let inside : take (head.length - 3) (chapters ++ rest) ≡ chapters =
     ap (λ (n : ℕ). take n (chapters ++ rest)) (let n : head.length - 3 ≡ length chapters = omega arith in n) ∙ take-append_seam chapters rest in
     ap (behind_head place before octets) found
-    ∙ ap (λ (taken : List ℕ). with_length head.length (inside_read head (place + 3) before taken)) inside
-    ∙ rw no_h (ap (with_length head.length) read)
+    ∙ ap (λ (taken : List ℕ). with_size head.length (inside_read head (place + 3) before taken)) inside
+    ∙ rw no_h (ap (with_size head.length) read)

@@ -34,9 +34,9 @@ position_said fresh None = []
 position_said fresh (Some state) = position_log fresh state ∷ []
 
 -- The song position, where the latest of its commands is coded.
-unfoldable pub q_said : (from packet : ℕ) → List Sent → List Log
-q_said from packet sent =
-    flat_map (λ place. position_said (is_fresh packet place) (sequencer_after (below packet_of packet sent))) (item_coded Sequence from packet sent)
+unfoldable pub q_said : (checkpoint packet : ℕ) → List Sent → List Log
+q_said checkpoint packet sent =
+    flat_map (λ place. position_said (is_fresh packet place) (sequencer_after (below packet_of packet sent))) (item_coded Sequence checkpoint packet sent)
 
 -- ## One log
 
@@ -78,27 +78,27 @@ position_goes_on fresh s rest l =
 -- ## The chapter
 
 -- What is written of the song position is read as what is coded of it, whatever follows.
-pub q_again : (from packet : ℕ) (sent : List Sent) → AllByRecursion (λ place. IsCommand place.command) sent → is_there (chapter_q from packet sent) ≡ true → (rest : List ℕ) →
-    q_read (chapter_q from packet sent ++ rest) ≡ Some (q_said from packet sent, length (chapter_q from packet sent))
+pub q_again : (checkpoint packet : ℕ) (sent : List Sent) → AllByRecursion (λ place. IsCommand place.command) sent → is_there (chapter_q checkpoint packet sent) ≡ true → (rest : List ℕ) →
+    q_read (chapter_q checkpoint packet sent ++ rest) ≡ Some (q_said checkpoint packet sent, length (chapter_q checkpoint packet sent))
 unfolding chapter_q q_said
-q_again from packet sent h there rest =
-    elim (one-coded Sequence from packet sent) [
-      | none e ↦ absurd (let empty : is_there (chapter_q from packet sent) ≡ false = rw e refl in cc)
+q_again checkpoint packet sent h there rest =
+    elim (one-coded Sequence checkpoint packet sent) [
+      | none e ↦ absurd (let empty : is_there (chapter_q checkpoint packet sent) ≡ false = rw e refl in cc)
       | one x e ↦
-          let state = value_of (sequencer_after (below packet_of packet sent)) (position_there from packet sent x [] e) in
+          let state = value_of (sequencer_after (below packet_of packet sent)) (position_there checkpoint packet sent x [] e) in
           let bound = IsSequencer-after packet sent h in
           rw (e, state.is, append-nil (sequencer_octets (is_fresh packet x) state.value)) (position_again (is_fresh packet x) state.value rest (rw state.is at bound))
     ]
 
 -- Nothing behind it is passed over.
-pub q_goes_on : (from packet : ℕ) (sent : List Sent) → AllByRecursion (λ place. IsCommand place.command) sent → is_there (chapter_q from packet sent) ≡ true → (rest : List ℕ) →
-    q_ends (chapter_q from packet sent ++ rest) ≡ false
+pub q_goes_on : (checkpoint packet : ℕ) (sent : List Sent) → AllByRecursion (λ place. IsCommand place.command) sent → is_there (chapter_q checkpoint packet sent) ≡ true → (rest : List ℕ) →
+    q_ends (chapter_q checkpoint packet sent ++ rest) ≡ false
 unfolding chapter_q
-q_goes_on from packet sent h there rest =
-    elim (one-coded Sequence from packet sent) [
-      | none e ↦ absurd (let empty : is_there (chapter_q from packet sent) ≡ false = rw e refl in cc)
+q_goes_on checkpoint packet sent h there rest =
+    elim (one-coded Sequence checkpoint packet sent) [
+      | none e ↦ absurd (let empty : is_there (chapter_q checkpoint packet sent) ≡ false = rw e refl in cc)
       | one x e ↦
-          let state = value_of (sequencer_after (below packet_of packet sent)) (position_there from packet sent x [] e) in
+          let state = value_of (sequencer_after (below packet_of packet sent)) (position_there checkpoint packet sent x [] e) in
           let bound = IsSequencer-after packet sent h in
           rw (e, state.is, append-nil (sequencer_octets (is_fresh packet x) state.value)) (position_goes_on (is_fresh packet x) state.value rest (rw state.is at bound))
     ]
@@ -107,22 +107,22 @@ position_has : (fresh : Bool) (s : SequencerPart) → is_there (sequencer_octets
 position_has fresh s = elim (cases_Bool (eqb s.position 0)) [ inl z ↦ rw z refl | inr m ↦ rw m refl ]
 
 -- Where the chapter isn't there, nothing of it is coded.
-pub q_none : (from packet : ℕ) (sent : List Sent) → is_there (chapter_q from packet sent) ≡ false → q_said from packet sent ≡ []
+pub q_none : (checkpoint packet : ℕ) (sent : List Sent) → is_there (chapter_q checkpoint packet sent) ≡ false → q_said checkpoint packet sent ≡ []
 unfolding chapter_q q_said
-q_none from packet sent n =
-    elim (one-coded Sequence from packet sent) [
+q_none checkpoint packet sent n =
+    elim (one-coded Sequence checkpoint packet sent) [
       | none e ↦ rw e refl
       | one x e ↦
-          let state = value_of (sequencer_after (below packet_of packet sent)) (position_there from packet sent x [] e) in
-          absurd (let some : is_there (chapter_q from packet sent) ≡ true = rw (e, state.is) (position_has (is_fresh packet x) state.value) in cc)
+          let state = value_of (sequencer_after (below packet_of packet sent)) (position_there checkpoint packet sent x [] e) in
+          absurd (let some : is_there (chapter_q checkpoint packet sent) ≡ true = rw (e, state.is) (position_has (is_fresh packet x) state.value) in cc)
     ]
 
 pub record SequencerIsRead : Type 0 where
-  pub there : (from packet : ℕ) (sent : List Sent) → AllByRecursion (λ place. IsCommand place.command) sent → is_there (chapter_q from packet sent) ≡ true → (rest : List ℕ) →
-      q_read (chapter_q from packet sent ++ rest) ≡ Some (q_said from packet sent, length (chapter_q from packet sent))
-  pub goes_on : (from packet : ℕ) (sent : List Sent) → AllByRecursion (λ place. IsCommand place.command) sent → is_there (chapter_q from packet sent) ≡ true → (rest : List ℕ) →
-      q_ends (chapter_q from packet sent ++ rest) ≡ false
-  pub none : (from packet : ℕ) (sent : List Sent) → is_there (chapter_q from packet sent) ≡ false → q_said from packet sent ≡ []
+  pub there : (checkpoint packet : ℕ) (sent : List Sent) → AllByRecursion (λ place. IsCommand place.command) sent → is_there (chapter_q checkpoint packet sent) ≡ true → (rest : List ℕ) →
+      q_read (chapter_q checkpoint packet sent ++ rest) ≡ Some (q_said checkpoint packet sent, length (chapter_q checkpoint packet sent))
+  pub goes_on : (checkpoint packet : ℕ) (sent : List Sent) → AllByRecursion (λ place. IsCommand place.command) sent → is_there (chapter_q checkpoint packet sent) ≡ true → (rest : List ℕ) →
+      q_ends (chapter_q checkpoint packet sent ++ rest) ≡ false
+  pub none : (checkpoint packet : ℕ) (sent : List Sent) → is_there (chapter_q checkpoint packet sent) ≡ false → q_said checkpoint packet sent ≡ []
 
 pub sequencer_is_read : SequencerIsRead
 sequencer_is_read = record { there = q_again; goes_on = q_goes_on; none = q_none }

@@ -28,12 +28,12 @@ pressure_said channel fresh (Pressed value) = record { fresh = fresh; what = Pre
 pressure_said channel fresh Cleared = []
 pressure_said channel fresh Other = []
 
-abbrev pub place_said : ℕ → ℕ → Sent → List Log
+abbrev pub place_said : (channel packet : ℕ) → Sent → List Log
 place_said channel packet place = pressure_said channel (is_fresh packet place) (pressure_at channel place)
 
 -- the logs of Chapter T of this channel in the journal of this packet
-unfoldable pub t_said : (channel from packet : ℕ) → List Sent → List Log
-t_said channel from packet sent = flat_map (place_said channel packet) (coded_pressure channel from packet sent)
+unfoldable pub t_said : (channel checkpoint packet : ℕ) → List Sent → List Log
+t_said channel checkpoint packet sent = flat_map (place_said channel packet) (coded_pressure channel checkpoint packet sent)
 
 -- ## What is written is read
 
@@ -95,20 +95,20 @@ says channel packet = record {
   touching = λ x h. touching (pressure_at channel x) h;
 }
 
-pub t_again : (channel from packet : ℕ) (sent : List Sent) → AreCommands sent → is_there (chapter_t channel from packet sent) ≡ true → (rest : List ℕ) →
-    t_read channel (chapter_t channel from packet sent ++ rest) ≡ Some (t_said channel from packet sent, length (chapter_t channel from packet sent))
+pub t_again : (channel checkpoint packet : ℕ) (sent : List Sent) → AreCommands sent → is_there (chapter_t channel checkpoint packet sent) ≡ true → (rest : List ℕ) →
+    t_read channel (chapter_t channel checkpoint packet sent ++ rest) ≡ Some (t_said channel checkpoint packet sent, length (chapter_t channel checkpoint packet sent))
 unfolding chapter_t t_said
-t_again channel from packet sent h there rest =
+t_again channel checkpoint packet sent h there rest =
     let seen = below packet_of packet sent in
     let fits = AllByRecursion-weaker (λ (place : Sent). IsCommand place.command) (fits_at channel) (λ place b. fits_event channel place.command b) sent h in
     one_again (fits_at channel) (item_at channel) (touches_at channel) (pressure_log channel packet) (place_said channel packet) (t_read channel) (says channel packet)
-    (coded_pressure channel from packet sent) (Unended-coded (pressure_ends channel) packet_of from seen)
-    (all_coded (fits_at channel) (pressure_ends channel) packet_of from seen (all_below (fits_at channel) packet sent fits)) there rest
+    (coded_pressure channel checkpoint packet sent) (Unended-coded (pressure_ends channel) packet_of checkpoint seen)
+    (all_coded (fits_at channel) (pressure_ends channel) packet_of checkpoint seen (all_below (fits_at channel) packet sent fits)) there rest
 
-pub t_none : (channel from packet : ℕ) (sent : List Sent) → AreCommands sent → is_there (chapter_t channel from packet sent) ≡ false → t_said channel from packet sent ≡ []
+pub t_none : (channel checkpoint packet : ℕ) (sent : List Sent) → AreCommands sent → is_there (chapter_t channel checkpoint packet sent) ≡ false → t_said channel checkpoint packet sent ≡ []
 unfolding chapter_t t_said
-t_none channel from packet sent h none =
-    one_none (fits_at channel) (item_at channel) (touches_at channel) (pressure_log channel packet) (place_said channel packet) (t_read channel) (says channel packet) (coded_pressure channel from packet sent) none
+t_none channel checkpoint packet sent h none =
+    one_none (fits_at channel) (item_at channel) (touches_at channel) (pressure_log channel packet) (place_said channel packet) (t_read channel) (says channel packet) (coded_pressure channel checkpoint packet sent) none
 
 pub t_is_read : ChapterIsRead chapter_t t_said (λ channel octets. t_read channel octets)
 t_is_read = record { again = t_again; none = t_none }

@@ -28,12 +28,12 @@ wheel_said channel fresh (Moved first second) = record { fresh = fresh; what = W
 wheel_said channel fresh Cleared = []
 wheel_said channel fresh Other = []
 
-abbrev pub place_said : ℕ → ℕ → Sent → List Log
+abbrev pub place_said : (channel packet : ℕ) → Sent → List Log
 place_said channel packet place = wheel_said channel (is_fresh packet place) (wheel_at channel place)
 
 -- the logs of Chapter W of this channel in the journal of this packet
-unfoldable pub w_said : (channel from packet : ℕ) → List Sent → List Log
-w_said channel from packet sent = flat_map (place_said channel packet) (coded_wheel channel from packet sent)
+unfoldable pub w_said : (channel checkpoint packet : ℕ) → List Sent → List Log
+w_said channel checkpoint packet sent = flat_map (place_said channel packet) (coded_wheel channel checkpoint packet sent)
 
 -- ## What is written is read
 
@@ -96,20 +96,20 @@ says channel packet = record {
   touching = λ x h. touching (wheel_at channel x) h;
 }
 
-pub w_again : (channel from packet : ℕ) (sent : List Sent) → AreCommands sent → is_there (chapter_w channel from packet sent) ≡ true → (rest : List ℕ) →
-    w_read channel (chapter_w channel from packet sent ++ rest) ≡ Some (w_said channel from packet sent, length (chapter_w channel from packet sent))
+pub w_again : (channel checkpoint packet : ℕ) (sent : List Sent) → AreCommands sent → is_there (chapter_w channel checkpoint packet sent) ≡ true → (rest : List ℕ) →
+    w_read channel (chapter_w channel checkpoint packet sent ++ rest) ≡ Some (w_said channel checkpoint packet sent, length (chapter_w channel checkpoint packet sent))
 unfolding chapter_w w_said
-w_again channel from packet sent h there rest =
+w_again channel checkpoint packet sent h there rest =
     let seen = below packet_of packet sent in
     let fits = AllByRecursion-weaker (λ (place : Sent). IsCommand place.command) (fits_at channel) (λ place b. fits_event channel place.command b) sent h in
     one_again (fits_at channel) (item_at channel) (touches_at channel) (wheel_log channel packet) (place_said channel packet) (w_read channel) (says channel packet)
-    (coded_wheel channel from packet sent) (Unended-coded (wheel_ends channel) packet_of from seen)
-    (all_coded (fits_at channel) (wheel_ends channel) packet_of from seen (all_below (fits_at channel) packet sent fits)) there rest
+    (coded_wheel channel checkpoint packet sent) (Unended-coded (wheel_ends channel) packet_of checkpoint seen)
+    (all_coded (fits_at channel) (wheel_ends channel) packet_of checkpoint seen (all_below (fits_at channel) packet sent fits)) there rest
 
-pub w_none : (channel from packet : ℕ) (sent : List Sent) → AreCommands sent → is_there (chapter_w channel from packet sent) ≡ false → w_said channel from packet sent ≡ []
+pub w_none : (channel checkpoint packet : ℕ) (sent : List Sent) → AreCommands sent → is_there (chapter_w channel checkpoint packet sent) ≡ false → w_said channel checkpoint packet sent ≡ []
 unfolding chapter_w w_said
-w_none channel from packet sent h none =
-    one_none (fits_at channel) (item_at channel) (touches_at channel) (wheel_log channel packet) (place_said channel packet) (w_read channel) (says channel packet) (coded_wheel channel from packet sent) none
+w_none channel checkpoint packet sent h none =
+    one_none (fits_at channel) (item_at channel) (touches_at channel) (wheel_log channel packet) (place_said channel packet) (w_read channel) (says channel packet) (coded_wheel channel checkpoint packet sent) none
 
 pub w_is_read : ChapterIsRead chapter_w w_said (λ channel octets. w_read channel octets)
 w_is_read = record { again = w_again; none = w_none }

@@ -38,8 +38,8 @@ abbrev pub sysex_said : ℕ → Counted → List Log
 sysex_said packet counted = event_said (is_fresh packet counted.1) counted.0 (event_at counted.1) (data_of counted.1.command)
 
 -- The coded messages, oldest first.
-unfoldable pub x_said : (from packet : ℕ) → List Sent → List Log
-x_said from packet sent = flat_map (sysex_said packet) (coded_counted from 0 (below packet_of packet sent))
+unfoldable pub x_said : (checkpoint packet : ℕ) → List Sent → List Log
+x_said checkpoint packet sent = flat_map (sysex_said packet) (coded_counted checkpoint 0 (below packet_of packet sent))
 
 -- ## Data octets
 
@@ -163,10 +163,10 @@ data_scanned : (count : ℕ) (places : List Sent) → AllByRecursion (λ place. 
 data_scanned count [] h = tt
 data_scanned count (x ∷ xs) h = (data_command x.command h.0, data_scanned (count_step count x) xs h.1)
 
-data_coded : (from count : ℕ) (places : List Sent) → AllByRecursion (λ place. IsCommand place.command) places →
-    AllByRecursion (λ counted. IsData (data_of counted.1.command)) (coded_counted from count places)
-data_coded from count places h =
-    AllByRecursion-filter (λ counted. IsData (data_of counted.1.command)) (λ counted. leb from (counted_packet counted)) (standing counted_ends (scanned count_step count places))
+data_coded : (checkpoint count : ℕ) (places : List Sent) → AllByRecursion (λ place. IsCommand place.command) places →
+    AllByRecursion (λ counted. IsData (data_of counted.1.command)) (coded_counted checkpoint count places)
+data_coded checkpoint count places h =
+    AllByRecursion-filter (λ counted. IsData (data_of counted.1.command)) (λ counted. leb checkpoint (counted_packet counted)) (standing counted_ends (scanned count_step count places))
     (AllByRecursion-standing (λ counted. IsData (data_of counted.1.command)) counted_ends (scanned count_step count places) (data_scanned count places h))
 
 read_all : (octets : List ℕ) → is_there octets ≡ true → x_read octets ≡ logs_read (length octets) octets
@@ -174,15 +174,15 @@ read_all [] t = absurd (let f : false ≡ true = t in cc)
 read_all (first ∷ rest) t = refl
 
 -- What is written of System Exclusive messages is read as what is coded of them, where nothing follows.
-pub x_again : (from packet : ℕ) (sent : List Sent) → AllByRecursion (λ place. IsCommand place.command) sent → is_there (chapter_x from packet sent) ≡ true →
-    x_read (chapter_x from packet sent) ≡ Some (x_said from packet sent, length (chapter_x from packet sent))
+pub x_again : (checkpoint packet : ℕ) (sent : List Sent) → AllByRecursion (λ place. IsCommand place.command) sent → is_there (chapter_x checkpoint packet sent) ≡ true →
+    x_read (chapter_x checkpoint packet sent) ≡ Some (x_said checkpoint packet sent, length (chapter_x checkpoint packet sent))
 unfolding chapter_x x_said
-x_again from packet sent h there =
+x_again checkpoint packet sent h there =
     let seen = below packet_of packet sent in
-    let places = coded_counted from 0 seen in
+    let places = coded_counted checkpoint 0 seen in
     let commands = AllByRecursion-filter (λ place. IsCommand place.command) (λ place. ltb (packet_of place) packet) sent h in
     read_all (flat_map (sysex_log packet) places) there
-    ∙ all_again packet places (length (flat_map (sysex_log packet) places)) (data_coded from 0 seen commands) (omega arith)
+    ∙ all_again packet places (length (flat_map (sysex_log packet) places)) (data_coded checkpoint 0 seen commands) (omega arith)
 
 none_event : (s count : ℕ) (fresh : Bool) (event : SysexEvent) (octets later : List ℕ) → length (event_text s count event octets ++ later) ≡ 0 →
     (event_said fresh count event octets ≡ []) × (length later ≡ 0)
@@ -202,16 +202,16 @@ isnt_there [] n = refl
 isnt_there (first ∷ rest) n = absurd (let some : is_there (first ∷ rest) ≡ true = lt-ltb 0 (suc (length rest)) (omega arith) in cc)
 
 -- Where the chapter isn't there, nothing of it is coded.
-pub x_none : (from packet : ℕ) (sent : List Sent) → is_there (chapter_x from packet sent) ≡ false → x_said from packet sent ≡ []
+pub x_none : (checkpoint packet : ℕ) (sent : List Sent) → is_there (chapter_x checkpoint packet sent) ≡ false → x_said checkpoint packet sent ≡ []
 unfolding chapter_x x_said
-x_none from packet sent n =
-    let places = coded_counted from 0 (below packet_of packet sent) in
+x_none checkpoint packet sent n =
+    let places = coded_counted checkpoint 0 (below packet_of packet sent) in
     none_said packet places (isnt_there (flat_map (sysex_log packet) places) n)
 
 pub record MessagesAreRead : Type 0 where
-  pub there : (from packet : ℕ) (sent : List Sent) → AllByRecursion (λ place. IsCommand place.command) sent → is_there (chapter_x from packet sent) ≡ true →
-      x_read (chapter_x from packet sent) ≡ Some (x_said from packet sent, length (chapter_x from packet sent))
-  pub none : (from packet : ℕ) (sent : List Sent) → is_there (chapter_x from packet sent) ≡ false → x_said from packet sent ≡ []
+  pub there : (checkpoint packet : ℕ) (sent : List Sent) → AllByRecursion (λ place. IsCommand place.command) sent → is_there (chapter_x checkpoint packet sent) ≡ true →
+      x_read (chapter_x checkpoint packet sent) ≡ Some (x_said checkpoint packet sent, length (chapter_x checkpoint packet sent))
+  pub none : (checkpoint packet : ℕ) (sent : List Sent) → is_there (chapter_x checkpoint packet sent) ≡ false → x_said checkpoint packet sent ≡ []
 
 pub messages_are_read : MessagesAreRead
 messages_are_read = record { there = x_again; none = x_none }

@@ -2,36 +2,46 @@
 
 ghost use Rattle.std.specs.Prelude.{◌≡◌, ◌≤◌, length, IfOk};
 ghost use Rattle.jm_reader.specs.Chapter.{Reads, chapter};
-ghost use Rattle.jm_reader.specs.Pairs.{control_said, is_counted, is_entry, listed_read};
+ghost use Rattle.jm_reader.specs.Pairs.{toggles_said, count_said, control_said, listed_read};
 ghost use Rattle.jm_reader.specs.declared.pairs.PairKind.TheVariants.{Controllers};
 
 use crate::faults::JournalFault;
 use crate::logs::{LogKind, Logs};
 use crate::pairs::{PairKind, read_listed};
-use jm_cmds::{Channel, ControlKind, D7, ReadError};
+use jm_cmds::{Channel, D7, ReadError, is_counted, is_entry};
 
-/// Whether a controller is 6 or 38, whose values stand in Chapter M.
-fn is_entry(kind: ControlKind) -> bool
-    ensures { result ≡ is_entry kind }
+/// The toggles of the sustain pedal, where this is its controller.
+fn toggles_said(channel: Channel, number: D7, form: u8) -> Option<LogKind>
+    ensures { result ≡ toggles_said channel number form }
 {
-    matches!(kind, ControlKind::DataEntry { .. })
+    if number.get() == 64 {
+        return Some(LogKind::Toggle {
+            channel,
+            count: form % 64,
+        });
+    }
+    None
 }
 
-/// Whether the commands of a controller are counted: 96, 97, 120, 121 and 123.
-fn is_counted(kind: ControlKind) -> bool
-    ensures { result ≡ is_counted kind }
+/// The count of a controller whose commands are counted.
+fn count_said(channel: Channel, number: D7, form: u8) -> Option<LogKind>
+    ensures { result ≡ count_said channel number form }
 {
-    matches!(
-        kind,
-        ControlKind::Increment { .. } | ControlKind::Silence { .. } | ControlKind::ResetControllers
-    )
+    if is_counted(number) {
+        return Some(LogKind::Count {
+            channel,
+            number,
+            count: form % 64,
+        });
+    }
+    None
 }
 
 /// What the log of a controller says, where it says something here.
 pub(crate) fn said(channel: Channel, number: D7, form: u8) -> Option<LogKind>
     ensures { result ≡ control_said channel number form }
 {
-    if is_entry(ControlKind::of(number)) {
+    if is_entry(number) {
         return None;
     }
     if form < 128 {
@@ -42,16 +52,9 @@ pub(crate) fn said(channel: Channel, number: D7, form: u8) -> Option<LogKind>
         });
     }
     if form < 192 {
-        return None;
+        return toggles_said(channel, number, form);
     }
-    if is_counted(ControlKind::of(number)) {
-        return Some(LogKind::Count {
-            channel,
-            number,
-            count: form % 64,
-        });
-    }
-    None
+    count_said(channel, number, form)
 }
 
 /// Reads the chapter at the front of these octets, which stand at `place`, and tells how many octets it has.

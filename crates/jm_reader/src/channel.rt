@@ -5,12 +5,11 @@ ghost use Rattle.jm_wire.specs.Heads.{FitsChannel};
 ghost use Rattle.jm_reader.specs.Chapter.{Reads, Leaves, chapter};
 ghost use Rattle.jm_reader.specs.ChannelJournal.{is_flagged, chapter_read, flagged_read, chapters_read, head_read, inside_read, channel_read};
 
-use crate::behind::behind;
 use crate::faults::JournalFault;
 use crate::logs::Logs;
 use crate::{a, c, e, m, n, p, t, w};
 use jm_cmds::{Channel, ReadError};
-use jm_wire::ChannelHead;
+use jm_wire::{ChannelHead, behind};
 
 /// The chapters of a channel journal, by their letters.
 #[derive(Clone, Copy, PartialEq, Eq, Debug)]

@@ -84,6 +84,14 @@ fn program(bank: Option<(D7, D7)>) -> LogKind {
     }
 }
 
+fn poly(note: u8, value: u8) -> LogKind {
+    LogKind::Poly {
+        channel: Channel::low(CHANNEL),
+        note: D7::low(note),
+        value: D7::low(value),
+    }
+}
+
 fn pressure(value: u8) -> LogKind {
     LogKind::Pressure {
         channel: Channel::low(CHANNEL),
@@ -125,16 +133,8 @@ fn all_chapters(rt: HostRuntime) -> Result<(), Fail> {
             value: D7::low(2),
         },
         pressure(32),
-        LogKind::Poly {
-            channel,
-            note: D7::low(10),
-            value: D7::low(20),
-        },
-        LogKind::Poly {
-            channel,
-            note: D7::low(11),
-            value: D7::low(21),
-        },
+        poly(10, 20),
+        poly(11, 21),
     ];
     check(&rt, &octets, 32, &expected, rt.alloc());
     Ok(())
@@ -154,13 +154,13 @@ fn passed_over(rt: HostRuntime) -> Result<(), Fail> {
         &[pressure(32)],
         alloc,
     );
-    // Chapter C: 6 and 38, the toggle form, the count form on a value
+    // Chapter C: 6 and 38, the toggle form on other numbers than 64, the count form on a value
     check(
         &rt,
         &[
-            0x98, 12, 0x40, 0x03, 0x06, 0x01, 0x26, 0xc1, 0x40, 0x81, 0x07, 0xc1,
+            0x98, 14, 0x40, 0x04, 0x06, 0x01, 0x26, 0xc1, 0x3f, 0x81, 0x41, 0x81, 0x07, 0xc1,
         ],
-        12,
+        14,
         &[],
         alloc,
     );
@@ -191,15 +191,7 @@ fn parameters(rt: HostRuntime) -> Result<(), Fail> {
         ],
         alloc,
     );
-    // an open transaction is passed over, and the chapter behind it is read
-    check(
-        &rt,
-        &[0x98, 9, 0x22, 0xc0, 5, 0x01, 0x02, 0x02, 0x20],
-        9,
-        &[pressure(32)],
-        alloc,
-    );
-    // so is one with another flag in its second log, and one whose log passes it
+    // one with another flag in its second log, and one whose log passes it, are passed over
     check(
         &rt,
         &[

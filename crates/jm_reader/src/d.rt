@@ -4,10 +4,10 @@ ghost use Rattle.std.specs.Prelude.{◌≡◌, ◌+◌, ◌%◌, ◌≤◌, [], 
 ghost use Rattle.jm_reader.specs.Chapter.{Reads, chapter, joined};
 ghost use Rattle.jm_reader.specs.ChapterD.{kind_of, part_read, parts_read, d_read, d_ends};
 
-use crate::behind::behind;
 use crate::faults::JournalFault;
 use crate::logs::{Log, LogKind, Logs};
 use jm_cmds::{D7, ReadError};
+use jm_wire::behind;
 
 /// What a log of the chapter is of.
 #[derive(Clone, Copy, PartialEq, Eq, Debug)]

@@ -6,13 +6,12 @@ ghost use Rattle.jm_reader.specs.Bounds.{AreLogs};
 ghost use Rattle.jm_reader.specs.Chapter.{Reads, Leaves};
 ghost use Rattle.jm_reader.specs.Journal.{channels_read, flagged_system, channel_count, logs_read, journal_read};
 
-use crate::behind::behind;
 use crate::channel::read_channel;
 use crate::faults::JournalFault;
 use crate::logs::Logs;
 use crate::system::read_system;
 use jm_cmds::ReadError;
-use jm_wire::JournalHead;
+use jm_wire::{JournalHead, behind};
 use std::alloc::Global;
 
 /// What a recovery journal says.

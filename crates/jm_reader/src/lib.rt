@@ -7,7 +7,6 @@
 #![tactic(auto)]
 
 mod a;
-mod behind;
 mod c;
 mod channel;
 mod d;
@@ -34,5 +33,7 @@ pub use logs::{Log, LogKind, Logs};
 
 #[cfg(test)]
 mod channel_tests;
+#[cfg(test)]
+mod form_tests;
 #[cfg(test)]
 mod tests;

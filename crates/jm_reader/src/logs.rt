@@ -65,6 +65,11 @@ pub enum LogKind {
         number: D7,
         value: D7,
     },
+    /// Chapter C: the sustain pedal went up or down so many times, modulo 64.
+    Toggle {
+        channel: Channel,
+        count: u8,
+    },
     /// Chapter C: so many commands of a controller, modulo 64.
     Count {
         channel: Channel,

@@ -4,12 +4,11 @@ ghost use Rattle.std.specs.Prelude.{◌≡◌, ◌+◌, ◌≤◌, ◌^◌, leng
 ghost use Rattle.jm_reader.specs.Chapter.{Reads, Leaves, chapter};
 ghost use Rattle.jm_reader.specs.SystemJournal.{in_order, is_there, chapter_read, ends_journal, chapters_read, system_read};
 
-use crate::behind::behind;
 use crate::faults::JournalFault;
 use crate::logs::Logs;
 use crate::{d, f, q, v, x};
 use jm_cmds::ReadError;
-use jm_wire::SystemHead;
+use jm_wire::{SystemHead, behind};
 use std::alloc::Global;
 
 /// A chapter of the system journal.

@@ -5,10 +5,10 @@ ghost use Rattle.jm_reader.specs.Chapter.{Reads, chapter};
 ghost use Rattle.jm_reader.specs.ChapterX.{log_head, is_written, first_len, log_size, sysex_log, log_read, x_read};
 ghost use Rattle.jm_wire.specs.Heads.{octet};
 
-use crate::behind::behind;
 use crate::faults::JournalFault;
 use crate::logs::{Log, LogKind, Logs};
 use jm_cmds::{ReadError, Sysex, data_len};
+use jm_wire::behind;
 use std::alloc::{AllocError, Global};
 
 /// The first octet of a log.

@@ -8,5 +8,5 @@ unfolding channel_head
 returns-clause-head c =
     let span = c.args.span in
     let o = c.requires.octets in
-    let all = total_length span.from span.packet span.tick c.args.list.now c.args.channel c.args.lens.now o in
+    let all = total_length span.checkpoint span.packet span.tick c.args.list.now c.args.channel c.args.lens.now o in
     rw (all, c.is_fresh.ensures, c.get.ensures.value, c.total.ensures.total, o.p, o.c, o.m, o.w, o.n, o.e, o.t, o.a) refl

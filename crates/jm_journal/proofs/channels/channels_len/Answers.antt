@@ -8,11 +8,11 @@ pub loop-number-preserved : goal.loop-number-preserved
 loop-number-preserved c =
     let n = c.loop-number.number in
     let span = c.args.span in
-    let text = channel_journal span.from span.packet span.tick c.args.list.now in
+    let text = channel_journal span.checkpoint span.packet span.tick c.args.list.now in
     let channel : c.low.result ≡ n = omega (arith, c.low.ensures.value) in
     let value : c.channel_len-len.result ≡ length (text n) = rw channel at c.channel_len-len.ensures.value in
     let bound = c.channel_len-len.ensures.bound in
-    let here : length (text n) ≤ 996 = omega (arith, value, bound) in
+    let here : length (text n) ≤ 998 = omega (arith, value, bound) in
     let whole = rw (channels_from_more n (omega arith)) at c.loop-number.invariant.whole in
     record {
       whole = omega (arith, whole, value, length-append (text n) (flat_map text (channels_from (n + 1))));

@@ -6,8 +6,8 @@ use Rattle.jm_journal.proofs.channels.channels_len.Given as goal
 
 abbrev pub invariant-loop-number : goal.invariant-loop-number
 invariant-loop-number l = record {
-  whole : l.len + length (flat_map (channel_journal l.span.from l.span.packet l.span.tick l.list) (channels_from l.number))
-      ≡ length (flat_map (channel_journal l.span.from l.span.packet l.span.tick l.list) channels);
-  few : l.len ≤ 996 * l.number;
-  each : (channel : ℕ) → channel < l.number → length (channel_journal l.span.from l.span.packet l.span.tick l.list channel) ≤ 996;
+  whole : l.len + length (flat_map (channel_journal l.span.checkpoint l.span.packet l.span.tick l.list) (channels_from l.number))
+      ≡ length (flat_map (channel_journal l.span.checkpoint l.span.packet l.span.tick l.list) channels);
+  few : l.len ≤ 998 * l.number;
+  each : (channel : ℕ) → channel < l.number → length (channel_journal l.span.checkpoint l.span.packet l.span.tick l.list channel) ≤ 998;
 }

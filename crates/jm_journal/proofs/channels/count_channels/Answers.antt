@@ -6,7 +6,7 @@ use Rattle.jm_journal.proofs.channels.count_channels.Goals as goal
 pub loop-number-preserved : goal.loop-number-preserved
 loop-number-preserved c =
     let span = c.args.span in
-    let more = count_more span.from span.packet span.tick c.args.list.now c.loop-number.number (omega arith) in
+    let more = count_more span.checkpoint span.packet span.tick c.args.list.now c.loop-number.number (omega arith) in
     grind (arith, nat_tests, more)
 
 pub returns-clause-value : goal.returns-clause-value

@@ -4,6 +4,6 @@ use Rattle.jm_journal.proofs.channels.count_channels.Given as goal
 
 abbrev pub invariant-loop-number : goal.invariant-loop-number
 invariant-loop-number l = record {
-  sum : l.count + sum (map (journal_at l.span.from l.span.packet l.span.tick l.list) (channels_from l.number)) ≡ journal_count l.span.from l.span.packet l.span.tick l.list;
+  sum : l.count + sum (map (journal_at l.span.checkpoint l.span.packet l.span.tick l.list) (channels_from l.number)) ≡ journal_count l.span.checkpoint l.span.packet l.span.tick l.list;
   few : l.count ≤ l.number;
 }

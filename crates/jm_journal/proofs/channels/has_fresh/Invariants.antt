@@ -6,5 +6,5 @@ use Rattle.jm_journal.proofs.channels.has_fresh.Given as goal
 
 abbrev pub invariant-loop-number : goal.invariant-loop-number
 invariant-loop-number l =
-    list_any (channel_fresh l.span.from l.span.packet l.list) (channels_from l.number)
-    ≡ list_any (channel_fresh l.span.from l.span.packet l.list) channels
+    list_any (channel_fresh l.span.checkpoint l.span.packet l.list) (channels_from l.number)
+    ≡ list_any (channel_fresh l.span.checkpoint l.span.packet l.list) channels

@@ -9,7 +9,7 @@ pub write_channel-requires-clause-spare : goal.write_channel-requires-clause-spa
 write_channel-requires-clause-spare c =
     let n = c.loop-number.number in
     let span = c.args.span in
-    let text = channel_journal span.from span.packet span.tick c.args.list.now in
+    let text = channel_journal span.checkpoint span.packet span.tick c.args.list.now in
     let channel : c.low.result ≡ n = omega (arith, c.low.ensures.value) in
     let room = rw (channels_from_more n (omega arith)) at c.loop-number.invariant.room in
     rw channel (omega (arith, room, length-append (text n) (flat_map text (channels_from (n + 1)))))
@@ -18,7 +18,7 @@ pub loop-number-preserved : goal.loop-number-preserved
 loop-number-preserved c =
     let n = c.loop-number.number in
     let span = c.args.span in
-    let text = channel_journal span.from span.packet span.tick c.args.list.now in
+    let text = channel_journal span.checkpoint span.packet span.tick c.args.list.now in
     let channel : c.low.result ≡ n = omega (arith, c.low.ensures.value) in
     let written : Appends c.loop-number.out c.write_channel.new.out (text n) = rw channel at c.write_channel.ensures.written in
     let room = rw (channels_from_more n (omega arith)) at c.loop-number.invariant.room in

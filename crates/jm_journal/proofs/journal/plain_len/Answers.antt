@@ -4,4 +4,4 @@ use Rattle.jm_journal.proofs.journal.plain_len.Goals as goal
 
 pub returns-clause-number : goal.returns-clause-number
 returns-clause-number c =
-    omega (arith, journal_length c.args.from c.args.packet c.args.tick c.args.list.now, c.system_len.ensures.value, c.channels_len.ensures.value)
+    omega (arith, journal_length c.args.checkpoint c.args.packet c.args.tick c.args.list.now, c.system_len.ensures.value, c.channels_len.ensures.value)

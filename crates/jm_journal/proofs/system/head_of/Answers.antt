@@ -8,5 +8,5 @@ unfolding system_head
 returns-clause-head c =
     let span = c.args.span in
     let o = c.requires.octets in
-    let all = system_length span.from span.packet c.args.list.now c.args.lens.now o in
+    let all = system_length span.checkpoint span.packet c.args.list.now c.args.lens.now o in
     rw (all, c.is_fresh.ensures, c.total.ensures.total, o.d, o.v, o.q, o.f, o.x) refl

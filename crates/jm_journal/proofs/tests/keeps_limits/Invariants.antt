@@ -5,6 +5,6 @@ use Rattle.jm_journal.proofs.tests.keeps_limits.Given as goal
 
 abbrev pub invariant-loop-number : goal.invariant-loop-number
 invariant-loop-number l = record {
-  params : (channel : ℕ) → channel < l.number → param_count channel l.from l.list ≤ 16;
-  notes : (channel : ℕ) → channel < l.number → poly_count channel l.from l.list ≤ 64;
+  params : (channel : ℕ) → channel < l.number → param_count channel l.checkpoint l.list ≤ 16;
+  notes : (channel : ℕ) → channel < l.number → poly_count channel l.checkpoint l.list ≤ 64;
 }
