@@ -3,7 +3,7 @@ use Rattle.std.specs.Prelude.{ℕ, Bool, false, List, [], ◌∷◌, Option, Som
 use Rattle.jm_cmds.specs.declared.commands.Command.{Command}
 use Rattle.jm_cmds.specs.declared.commands.Command.TheVariants as commands
 use Rattle.jm_reader.specs.declared.logs.LogKind.{LogKind}
-use Rattle.jm_reader.specs.declared.logs.LogKind.TheVariants.{Program, Param, Control, Count, Wheel, NoteOff, NoteOn, Pressure, Poly}
+use Rattle.jm_reader.specs.declared.logs.LogKind.TheVariants.{Program, Param, Control, Toggle, Count, Wheel, NoteOff, NoteOn, Pressure, Poly}
 use Rattle.jm_receiver.specs.declared.group.Group.{Group}
 use Rattle.jm_receiver.specs.declared.group.Group.TheVariants.{Programs, Params, Controls, Wheels, Released, Struck, Pressures, Polys}
 
@@ -27,6 +27,7 @@ param_channel _ = None
 
 abbrev pub control_channel : LogKind → Option ℕ
 control_channel (Control channel number value) = Some channel
+control_channel (Toggle channel count) = Some channel
 control_channel (Count channel number count) = Some channel
 control_channel _ = None
 

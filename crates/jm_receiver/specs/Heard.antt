@@ -1,4 +1,4 @@
--- What a packet tells: the commands of its section, and those that repair hands on.
+-- What is heard of a packet: the commands of its section, and those that repair hands on.
 use Rattle.std.specs.Prelude.{◌+◌, ◌%◌, ◌^◌, List, [], ◌∷◌, ◌++◌, fold}
 use Rattle.jm_cmds.specs.declared.commands.Command.{Command}
 use Rattle.jm_section.specs.declared.item.Item.{Item}

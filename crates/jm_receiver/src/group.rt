@@ -77,6 +77,7 @@ fn channel_in(group: &Group, log: &LogKind) -> Option<Channel>
         },
         Group::Controls => match log {
             LogKind::Control { channel, .. } => Some(*channel),
+            LogKind::Toggle { channel, .. } => Some(*channel),
             LogKind::Count { channel, .. } => Some(*channel),
             _ => None,
         },

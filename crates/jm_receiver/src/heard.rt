@@ -1,4 +1,4 @@
-//! What a packet tells: the commands that were sent, and those that repair hands on.
+//! What is heard of a packet: the commands of its section, and those that repair hands on.
 
 ghost use Rattle.std.specs.Prelude.{◌≡◌, ◌++◌, ◌∷◌, [], length, IfOk};
 ghost use Rattle.jm_receiver.specs.Heard.{heard_also, what_heard, sent_also, sent_all};
@@ -14,9 +14,9 @@ use std::marker::Model;
 pub enum HeardKind {
     /// It stands in the packet's command section.
     Sent,
-    /// The journal told of it.
+    /// Repair handed it on: it stands in the journal.
     Repaired,
-    /// The journal told of a struck note that is no longer worth playing (the Y bit of RFC 6295, A.6.1).
+    /// Repair handed on a struck note that is no longer worth playing (the Y bit of RFC 6295, A.6.2).
     Late,
 }
 
@@ -78,7 +78,7 @@ impl HeardList {
     }
 }
 
-/// A state, the time, and what was heard so far.
+/// A state, the time, and what was heard so far. While repair hands on, the state is the listener's.
 #[derive(Debug, Drop)]
 pub(crate) struct Hearing {
     pub(crate) state: State,

@@ -1,21 +1,27 @@
 //! The receiver of a session: it takes packets, puts its state right after packets were lost, and says what it
 //! missed (RFC 6295, sections 4 and 5).
 //!
-//! [`Receiver::accept`] takes a packet. It reads the command section and the recovery journal, tells which packets
-//! are missing before it, and repairs the state by the journal's logs.
+//! [`Receiver::accept`] takes a packet. It reads the command section and the recovery journal, tells how many packets
+//! were missed before it, and repairs the state by the journal's logs. The rules of repair are this project's own: the
+//! standard says what the logs mean, and leaves to receivers what they do with them.
 #![tactic(auto)]
 
 mod group;
+mod handing_on;
 mod heard;
+pub mod laws;
 mod opening;
 mod place;
 mod receiver;
 mod repair;
-mod told;
 
 pub use heard::{Heard, HeardKind, HeardList};
 pub use opening::AcceptFault;
 pub use receiver::{Receiver, Took};
 
+#[cfg(test)]
+mod law_tests;
+#[cfg(test)]
+mod repair_tests;
 #[cfg(test)]
 mod tests;

@@ -1,19 +1,20 @@
 //! Reading a packet of a stream, with its journal.
 
-ghost use Rattle.std.specs.Prelude.{◌≡◌, drop};
+ghost use Rattle.std.specs.Prelude.{◌≡◌};
 ghost use Rattle.jm_cmds.specs.Gives.{Gives};
 ghost use Rattle.jm_section.specs.Reading.{GivesBy};
-ghost use Rattle.jm_packet.specs.Reading.{packet_view};
-ghost use Rattle.jm_receiver.specs.Accept.{logs_read, whole_read, behind_packet, opened, contents};
+ghost use Rattle.jm_packet.specs.Reading.{packet_read, packet_view};
+ghost use Rattle.jm_receiver.specs.Accept.{of_packet, logs_read, contents_read, opened, contents};
 
 use jm_cmds::ReadError;
 use jm_packet::{Packet, PacketFault, read_packet, read_source};
 use jm_reader::{JournalFault, Logs, read_journal};
 use jm_section::Item;
+use jm_wire::behind;
 use std::alloc::Global;
 use thiserror::Error;
 
-/// Why a receiver takes nothing of a packet. The first that holds, in this order, is told, but that `OtherSsrc` is told
+/// Why a receiver takes nothing of a packet. The first that holds, in this order, is answered, but that `OtherSsrc` comes
 /// before a fault of the section.
 #[derive(Clone, Copy, PartialEq, Eq, Debug, Error)]
 pub enum AcceptFault {
@@ -26,8 +27,9 @@ pub enum AcceptFault {
     /// What follows the command section begins with no journal. Places are counted from the journal's first octet.
     #[error("the packet has no journal: {0}")]
     Journal(JournalFault),
-    /// The packet isn't behind the last one, whose number this is: its low bits are 0 or at least 32,768 steps behind.
-    #[error("the packet isn't behind packet {last}")]
+    /// The packet isn't newer than the last one, whose number this is: its low 16 bits are 0 or at least 32,768 ahead of
+    /// the last one's, modulo 65,536.
+    #[error("the packet isn't newer than packet {last}")]
     Older { last: u64 },
 }
 
@@ -42,16 +44,6 @@ pub(crate) struct Opened {
     pub(crate) items: Vec<Item>,
     /// The logs of its journal: none where it has no journal.
     pub(crate) logs: Logs,
-}
-
-/// The octets behind the first `count`; none where there are fewer.
-fn behind(octets: &[u8], count: usize) -> &[u8]
-    ensures { result.now ≡ drop count octets.now }
-{
-    match octets.get(count..) {
-        Some(rest) => rest,
-        None => &[],
-    }
 }
 
 /// The logs of the journal that begins at this place, if there is one.
@@ -74,7 +66,7 @@ fn read_logs(
 
 /// The packet that these octets are, its journal apart.
 fn read_whole(octets: &[u8], alloc: Global) -> Result<Packet, ReadError<AcceptFault>>
-    ensures { GivesBy packet_view result (whole_read octets.now) }
+    ensures { GivesBy packet_view result (of_packet (packet_read octets.now)) }
 {
     match read_packet(octets, alloc) {
         Ok(packet) => Ok(packet),
@@ -85,7 +77,7 @@ fn read_whole(octets: &[u8], alloc: Global) -> Result<Packet, ReadError<AcceptFa
 
 /// What stands in a packet, of whatever stream.
 fn read_contents(octets: &[u8], alloc: Global) -> Result<Opened, ReadError<AcceptFault>>
-    ensures { GivesBy contents result (behind_packet octets.now (whole_read octets.now)) }
+    ensures { GivesBy contents result (contents_read octets.now) }
 {
     let packet = read_whole(octets, alloc)?;
     let logs = read_logs(octets, packet.journal, alloc)?;

@@ -1,7 +1,7 @@
-//! Where a packet stands behind the last one.
+//! Where a packet stands after the last one.
 
 ghost use Rattle.std.specs.Prelude.{◌≡◌, ◌%◌};
-ghost use Rattle.jm_receiver.specs.Accept.{steps_behind, uses_behind, placed_behind, placed};
+ghost use Rattle.jm_receiver.specs.Accept.{packets_ahead, used_after, placed_ahead, placed};
 
 use crate::opening::AcceptFault;
 
@@ -9,12 +9,12 @@ use crate::opening::AcceptFault;
 #[derive(Clone, Copy, PartialEq, Eq, Debug)]
 pub(crate) enum Uses {
     Nothing,
-    /// The logs that tell of the packet before.
+    /// The logs of what came in the packet before.
     Fresh,
     All,
 }
 
-/// Where a packet stands behind the last one.
+/// Where a packet stands after the last one.
 #[derive(Clone, Copy, Debug)]
 pub(crate) struct Placed {
     /// The packet's number.
@@ -24,16 +24,16 @@ pub(crate) struct Placed {
     pub(crate) uses: Uses,
 }
 
-/// How far these low bits are behind a number, modulo 65,536.
-fn steps_behind(last: u64, number: u16) -> u64
-    ensures { result ≡ steps_behind last number }
+/// How many packets the one with these low 16 bits is ahead of the last, modulo 65,536.
+fn packets_ahead(last: u64, number: u16) -> u64
+    ensures { result ≡ packets_ahead last number }
 {
     (u64::from(number) + 65_536 - last % 65_536) % 65_536
 }
 
-/// What of the journal is used behind so many missed packets.
-fn uses_behind(gap: u64) -> Uses
-    ensures { result ≡ uses_behind gap }
+/// What of the journal is used after so many missed packets.
+fn used_after(gap: u64) -> Uses
+    ensures { result ≡ used_after gap }
 {
     if gap == 0 {
         return Uses::Nothing;
@@ -44,21 +44,21 @@ fn uses_behind(gap: u64) -> Uses
     Uses::All
 }
 
-/// The place of a packet that is so many steps behind the last one. It is older where that is none, or at least 32,768.
-fn placed_behind(last: u64, steps: u64) -> Result<Placed, AcceptFault>
-    ensures { result ≡ placed_behind last steps }
+/// The place of a packet that is so many ahead of the last one. It is no newer where that is 0 or at least 32,768.
+fn placed_ahead(last: u64, ahead: u64) -> Result<Placed, AcceptFault>
+    ensures { result ≡ placed_ahead last ahead }
 {
-    if steps == 0 || 32_768 <= steps {
+    if ahead == 0 || 32_768 <= ahead {
         return Err(AcceptFault::Older { last });
     }
     Ok(Placed {
-        number: last.wrapping_add(steps),
-        gap: steps - 1,
-        uses: uses_behind(steps - 1),
+        number: last.wrapping_add(ahead),
+        gap: ahead - 1,
+        uses: used_after(ahead - 1),
     })
 }
 
-/// The place of a packet with these low bits of its number.
+/// The place of a packet with these low 16 bits of its number.
 pub(crate) fn find_place(last: Option<u64>, number: u16) -> Result<Placed, AcceptFault>
     ensures { result ≡ placed last number }
 {
@@ -68,6 +68,6 @@ pub(crate) fn find_place(last: Option<u64>, number: u16) -> Result<Placed, Accep
             gap: 0,
             uses: Uses::All,
         }),
-        Some(last) => placed_behind(last, steps_behind(last, number)),
+        Some(last) => placed_ahead(last, packets_ahead(last, number)),
     }
 }

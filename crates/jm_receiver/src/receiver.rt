@@ -2,7 +2,7 @@
 
 ghost use Rattle.std.specs.Prelude.{◌≡◌, None, IfOk, OnErr};
 ghost use Rattle.jm_state.specs.Parts.{no_state};
-ghost use Rattle.jm_receiver.specs.Accept.{contents, mended_by, mended, heard_in, accepted, Accepts};
+ghost use Rattle.jm_receiver.specs.Accept.{contents, repaired_by, repaired_using, heard_in, accepted, Accepts};
 
 use crate::heard::{HeardList, Hearing};
 use crate::opening::{AcceptFault, Opened, open};
@@ -45,27 +45,27 @@ impl Model for Receiver {
 
 impl Hearing {
     /// The state is repaired by these logs, and what repair hands on is heard.
-    fn mend_by(&mut self, logs: &[Log], alloc: Global) -> Result<(), AllocError>
-        ensures { IfOk result (λ _. self.new ≡ mended_by logs.now self.old) }
+    fn repair_by(&mut self, logs: &[Log], alloc: Global) -> Result<(), AllocError>
+        ensures { IfOk result (λ _. self.new ≡ repaired_by logs.now self.old) }
     {
         let mut repaired = self.state.copy();
         repair(&mut repaired, logs);
-        self.tell(logs, &repaired, alloc)?;
+        self.hand_on_repair(logs, &repaired, alloc)?;
         self.state = repaired;
         Ok(())
     }
 
-    /// The state is repaired by what is used of these logs.
-    fn mend(&mut self, uses: Uses, mut logs: Logs, alloc: Global) -> Result<(), AllocError>
-        ensures { IfOk result (λ _. self.new ≡ mended uses logs self.old) }
+    /// The state is repaired by those of these logs that are used, and what repair hands on is heard.
+    fn repair_using(&mut self, uses: Uses, mut logs: Logs, alloc: Global) -> Result<(), AllocError>
+        ensures { IfOk result (λ _. self.new ≡ repaired_using uses logs self.old) }
     {
         match uses {
             Uses::Nothing => Ok(()),
             Uses::Fresh => {
                 logs.keep_fresh();
-                self.mend_by(logs.as_slice(), alloc)
+                self.repair_by(logs.as_slice(), alloc)
             }
-            Uses::All => self.mend_by(logs.as_slice(), alloc),
+            Uses::All => self.repair_by(logs.as_slice(), alloc),
         }
     }
 }
@@ -83,7 +83,7 @@ impl Receiver {
         })
     }
 
-    /// The state behind the last packet that was taken.
+    /// The state after the last packet that was taken.
     pub fn state(&self) -> &State
         ensures { result.now ≡ self.now.state }
     {
@@ -104,7 +104,7 @@ impl Receiver {
         self.ssrc
     }
 
-    /// The state behind a packet, and what is heard of it.
+    /// The state after a packet, and what is heard of it.
     fn hear(&self, opened: Opened, uses: Uses) -> Result<Hearing, AllocError>
         ensures { IfOk result (λ h. h ≡ heard_in self.now (contents opened) uses) }
     {
@@ -113,7 +113,7 @@ impl Receiver {
             tick: opened.tick,
             heard: HeardList::none(self.alloc),
         };
-        hearing.mend(uses, opened.logs, self.alloc)?;
+        hearing.repair_using(uses, opened.logs, self.alloc)?;
         hearing.hear_items(opened.items.as_slice(), self.alloc)?;
         Ok(hearing)
     }
@@ -121,13 +121,13 @@ impl Receiver {
     /// Takes a packet (RFC 6295, sections 4 and 5).
     ///
     /// The first packet that is taken has the number of its 16 bits, and all logs of its journal repair the state. A later one
-    /// is 1 to 32,767 steps behind the last: its number grows by them, modulo 2^64. Where no packet is missing between them
-    /// the journal isn't used; where one is, the state is repaired by the logs that tell of it, and else by all logs. Then the
-    /// whole commands of the section are applied in order.
+    /// is 1 to 32,767 ahead of the last: the number grows by that, modulo 2^64. Where no packet was missed between them
+    /// the journal isn't used; where one was, the state is repaired by the logs of what came in it, and else by all logs. Then
+    /// the whole commands of the section are applied in order.
     ///
     /// Refused, in this order: `Packet` for the header; `OtherSsrc` where the packet is of another stream; `Packet` for the
-    /// section; `Journal` where the journal isn't one, also where it isn't used; `Older` where the low bits of the number are 0
-    /// or at least 32,768 steps behind those of the last packet. `Memory` is answered where memory is refused. After a refusal
+    /// section; `Journal` where the journal isn't one, also where it isn't used; `Older` where the low 16 bits of the number are
+    /// 0 or at least 32,768 ahead of those of the last packet. `Memory` is answered where memory is refused. After a refusal
     /// the receiver is as it was.
     #[tactic(auto, unfolding(crate::specs::Accept::accepted))]
     pub fn accept(&mut self, packet: &[u8]) -> Result<Took, ReadError<AcceptFault>>

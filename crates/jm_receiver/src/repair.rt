@@ -3,7 +3,7 @@
 ghost use Rattle.std.specs.Prelude.{◌≡◌, ◌<◌};
 ghost use Rattle.jm_cmds.specs.Control.{is_reset_message};
 ghost use Rattle.jm_receiver.specs.Group.{command_of};
-ghost use Rattle.jm_receiver.specs.Repair.{is_reset_log, has_reset, cleared, distance, is_ahead, counts, message_told, messages_repaired, session_told, session_repaired, high_entered, low_entered, applied_if, channel_told, group_told, group_repaired, channel_repaired, repaired};
+ghost use Rattle.jm_receiver.specs.Repair.{is_reset_log, has_reset, cleared, messages_ahead, is_ahead, counts, with_message, messages_repaired, with_session_log, session_repaired, high_entered, low_entered, applied_if, with_channel_log, with_log_of, group_repaired, channel_repaired, repaired};
 
 use crate::group::{Group, all_channels, all_groups, command_of, is_of};
 use jm_cmds::{Channel, D7, SequencerPart, TimePart, is_reset_message};
@@ -33,23 +33,23 @@ pub(crate) fn has_reset(logs: &[Log]) -> bool
     false
 }
 
-/// How far one number of a message is before another, modulo 256.
-fn distance(before: u8, count: u8) -> u16
-    ensures { result ≡ distance before count }
+/// How many messages a log's number is ahead of the number that the state had before, modulo 256.
+fn messages_ahead(before: u8, count: u8) -> u16
+    ensures { result ≡ messages_ahead before count }
 {
     (u16::from(count) + 256 - u16::from(before)) % 256
 }
 
-/// Whether a number of a message is 1 to 128 behind another, modulo 256.
+/// Whether a log's number is 1 to 128 ahead of the number that the state had before, modulo 256.
 fn is_ahead(before: u8, count: u8) -> bool
     ensures { result ≡ is_ahead before count }
 {
-    let distance = distance(before, count);
-    1 <= distance && distance <= 128
+    let ahead = messages_ahead(before, count);
+    1 <= ahead && ahead <= 128
 }
 
-/// Whether the log has a message that is still to be counted: where a reset is among the logs each, else one whose
-/// number is behind the one that the state has (RFC 6295, B.5).
+/// Whether the log has a message that the state still has to count: where a reset is among the logs each, else one
+/// whose number is ahead of the one that the state had before. That 128 are the most is this project's own rule.
 pub(crate) fn counts(reset: bool, before: u8, log: &LogKind) -> bool
     ensures { result ≡ counts reset before log.now }
 {
@@ -63,7 +63,7 @@ pub(crate) fn counts(reset: bool, before: u8, log: &LogKind) -> bool
 
 /// Counts the message of a log.
 fn count_message(s: &mut State, reset: bool, before: u8, log: &Log)
-    ensures { s.new ≡ message_told reset before s.old log.now }
+    ensures { s.new ≡ with_message reset before s.old log.now }
 {
     if counts(reset, before, &log.what) {
         s.set_sysex_count(s.sysex_count().wrapping_add(1));
@@ -81,9 +81,9 @@ fn count_messages(s: &mut State, logs: &[Log])
     }
 }
 
-/// Sets the part of the whole session that the log tells.
+/// Sets the part of the whole session that the log has.
 fn set_session(s: &mut State, log: &LogKind)
-    ensures { s.new ≡ session_told s.old log.now }
+    ensures { s.new ≡ with_session_log s.old log.now }
 {
     match log {
         LogKind::Song { song } => s.set_song(Some(*song)),
@@ -111,7 +111,7 @@ fn set_session(s: &mut State, log: &LogKind)
     }
 }
 
-/// Sets the parts of the whole session that the logs tell.
+/// Sets the parts of the whole session that the logs have.
 fn set_sessions(s: &mut State, logs: &[Log])
     ensures { s.new ≡ session_repaired logs.now s.old }
 {
@@ -150,9 +150,9 @@ fn apply_command(s: &mut State, log: &LogKind)
     }
 }
 
-/// Does to the state what the log of a channel tells.
+/// Sets what the log of a channel has.
 fn set_channel(s: &mut State, log: &LogKind)
-    ensures { s.new ≡ channel_told s.old log.now }
+    ensures { s.new ≡ with_channel_log s.old log.now }
 {
     match log {
         LogKind::Program {
@@ -177,20 +177,21 @@ fn set_channel(s: &mut State, log: &LogKind)
             enter_high(s, *channel, *nrpn, *high, *low, *entry_high);
             enter_low(s, *channel, *nrpn, *high, *low, *entry_low);
         }
+        LogKind::Toggle { channel, count } => s.set_toggles(*channel, *count % 64),
         _ => apply_command(s, log),
     }
 }
 
-/// Does what the log tells, where it is of this group and channel.
+/// Sets what the log has, where it is of this group and channel.
 fn set_if_of(s: &mut State, group: &Group, channel: Channel, log: &Log)
-    ensures { s.new ≡ group_told group.now channel s.old log.now }
+    ensures { s.new ≡ with_log_of group.now channel s.old log.now }
 {
     if is_of(group, channel, &log.what) {
         set_channel(s, &log.what);
     }
 }
 
-/// Does what the logs of this group and channel tell.
+/// Sets what the logs of this group and channel have.
 #[tactic(auto, unfolding(crate::specs::Repair::group_repaired))]
 fn repair_group(s: &mut State, logs: &[Log], channel: Channel, group: &Group)
     ensures { s.new ≡ group_repaired logs.now channel s.old group.now }
@@ -200,7 +201,7 @@ fn repair_group(s: &mut State, logs: &[Log], channel: Channel, group: &Group)
     }
 }
 
-/// Does what the logs of this channel tell, group by group.
+/// Sets what the logs of this channel have, group by group.
 #[tactic(auto, unfolding(crate::specs::Repair::channel_repaired))]
 fn repair_channel(s: &mut State, logs: &[Log], channel: Channel)
     ensures { s.new ≡ channel_repaired logs.now s.old channel }

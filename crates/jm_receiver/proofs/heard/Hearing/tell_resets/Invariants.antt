@@ -1,6 +1,0 @@
-use Rattle.std.proofs.Common.{◌≡◌, drop, fold}
-use Rattle.jm_receiver.specs.Told.{reset_told}
-use Rattle.jm_receiver.proofs.heard.Hearing.tell_resets.Given as goal
-
-abbrev pub invariant-loop-log : goal.invariant-loop-log
-invariant-loop-log l = fold (λ h log. reset_told h log.what) l.self (drop l.log-index l.logs) ≡ fold (λ h log. reset_told h log.what) l.initial.self l.logs

@@ -1,0 +1,36 @@
+-- What the laws of repair say.
+use Rattle.std.specs.Prelude.{ℕ, ◌<◌}
+use Rattle.jm_state.specs.Parts.{song_of, sequencer_of, time_code_of, program_of, control_of, wheel_of, note_of, pressure_of, poly_of}
+use Rattle.jm_receiver.specs.Repairs.{Repairs}
+use Rattle.jm_receiver.specs.KnownLaw.{RepairsCommands}
+
+-- the program of each channel, with the bank that it was chosen with
+abbrev pub ProgramsAreRepaired : Type 0
+ProgramsAreRepaired = (channel : ℕ) → channel < 16 → Repairs (λ s. program_of s channel)
+
+-- the value of each control of a channel
+abbrev pub ControlsAreRepaired : Type 0
+ControlsAreRepaired = (channel control : ℕ) → channel < 16 → control < 128 → Repairs (λ s. control_of s channel control)
+
+-- the wheel of each channel
+abbrev pub WheelsAreRepaired : Type 0
+WheelsAreRepaired = (channel : ℕ) → channel < 16 → Repairs (λ s. wheel_of s channel)
+
+-- whether each note of a channel sounds, and with which velocity
+abbrev pub NotesAreRepaired : Type 0
+NotesAreRepaired = (channel note : ℕ) → channel < 16 → note < 128 → Repairs (λ s. note_of s channel note)
+
+-- the pressure of each channel, and that of each of its keys
+pub record PressuresAreRepaired : Type 0 where
+  pub channel : (channel : ℕ) → channel < 16 → Repairs (λ s. pressure_of s channel)
+  pub key : (channel note : ℕ) → channel < 16 → note < 128 → Repairs (λ s. poly_of s channel note)
+
+abbrev pub SongIsRepaired : Type 0
+SongIsRepaired = Repairs song_of
+
+-- the commands being within their bounds
+abbrev pub SequencerIsRepaired : Type 0
+SequencerIsRepaired = RepairsCommands sequencer_of
+
+abbrev pub TimeCodeIsRepaired : Type 0
+TimeCodeIsRepaired = RepairsCommands time_code_of

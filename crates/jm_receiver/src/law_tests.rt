@@ -1,0 +1,281 @@
+//! Repair by written journals: a history for each part, with a lost command of it, what clears it, and a reset, for each packet
+//! from which on a receiver lost all and each checkpoint that it may be told.
+
+ghost use Rattle.std.specs.Prelude.{IsTrue};
+ghost use Rattle.jm_cmds.specs.History.{InOrder};
+ghost use Rattle.jm_cmds.specs.Sent.{packet_of};
+ghost use Rattle.jm_journal.specs.Limits.{KeepsLimits};
+
+use crate::repair::repair;
+use ch_notes::a;
+use ch_param::m;
+use ch_sysex::x;
+use jm_cmds::{Channel, Sent, in_order, read_command, session_history};
+use jm_journal::{plain_len, plain_write};
+use jm_reader::read_journal;
+use jm_state::State;
+use jm_wire::Octets;
+use std::alloc::Global;
+use std::process::Abort;
+use std::test::Fail;
+
+/// Whether what is coded of these commands for this checkpoint keeps the limits.
+fn keeps_limits(list: &[Sent], checkpoint: u64) -> bool
+    requires { InOrder packet_of list.now }
+    ensures { IsTrue result → KeepsLimits checkpoint list.now }
+{
+    for number in 0..16u8 {
+        let channel = Channel::low(number);
+        if m::plain_params(list, channel, checkpoint) > 16
+            || a::plain_notes(list, channel, checkpoint) > 64
+        {
+            return false;
+        }
+    }
+    let (logs, octets) = x::plain_room(list, checkpoint);
+    logs <= 128 && octets <= 1000
+}
+
+/// The commands of these octets, one a packet, from packet 0 on.
+fn history(texts: &[&[u8]], alloc: Global) -> Result<Vec<Sent>, Fail> {
+    let mut list = Vec::new(alloc);
+    let mut packet = 0;
+    for text in texts {
+        let (command, _size) = read_command(text, alloc)?;
+        list.push(Sent {
+            packet,
+            tick: 0,
+            command,
+        })?;
+        packet = packet.wrapping_add(1);
+    }
+    Ok(list)
+}
+
+/// The state behind the commands in packets before this one.
+fn state_before(list: &[Sent], packet: u64) -> State {
+    let mut state = State::new();
+    for place in list {
+        if place.packet < packet {
+            state.apply(&place.command);
+        }
+    }
+    state
+}
+
+/// Checks the repair of the state behind the packets before `next`, by the journal of this packet.
+fn check_one<R: Abort>(
+    rt: &R,
+    list: &[Sent],
+    checkpoint: u64,
+    next: u64,
+    packet: u64,
+    alloc: Global,
+) -> Result<(), Fail> {
+    assert!(rt; in_order(list));
+    let session = session_history(list, packet);
+    assert!(rt; keeps_limits(session, checkpoint));
+    let len = plain_len(list, checkpoint, packet, 0);
+    let mut out = Octets::with_room(len, alloc)?;
+    plain_write(list, checkpoint, packet, 0, &mut out);
+    let report = read_journal(out.as_slice(), alloc)?;
+    let mut state = state_before(list, next);
+    repair(&mut state, report.logs.as_slice());
+    assert!(rt; state.same(&state_before(list, packet)));
+    Ok(())
+}
+
+/// Checks repairs along these commands, one a packet: of the empty state at each packet, and by the last packet's journal where
+/// all from each packet on was lost, with the earliest and the latest checkpoint.
+fn check<R: Abort>(rt: &R, texts: &[&[u8]], alloc: Global) -> Result<(), Fail> {
+    let list = history(texts, alloc)?;
+    let end = list.len() as u64;
+    for packet in 0..end {
+        check_one(rt, &list, 0, 0, packet, alloc)?;
+    }
+    for next in 0..end {
+        check_one(rt, &list, 0, next, end, alloc)?;
+        check_one(rt, &list, next, next, end, alloc)?;
+    }
+    Ok(())
+}
+
+/// Programs with a whole bank, half of one and none, behind Control 121 and resets.
+#[test]
+fn programs(rt: HostRuntime) -> Result<(), Fail> {
+    let alloc = rt.alloc();
+    check(
+        &rt,
+        &[
+            &[0xc0, 1],
+            &[0xb0, 0x20, 9],
+            &[0xb0, 0, 5],
+            &[0xc0, 2],
+            &[0xb0, 0x79, 0],
+            &[0xc0, 3],
+            &[0xff],
+            &[0xc0, 4],
+            &[0xb0, 0, 6],
+            &[0xc0, 5],
+            &[0xc1, 6],
+        ],
+        alloc,
+    )
+}
+
+/// Plain and kept controls, two modes that are one part, the pedal, Control 121, what ends all notes, and a reset.
+#[test]
+fn controls(rt: HostRuntime) -> Result<(), Fail> {
+    let alloc = rt.alloc();
+    check(
+        &rt,
+        &[
+            &[0xb0, 7, 0x40],
+            &[0xb0, 0, 1],
+            &[0xb0, 0x40, 0x7f],
+            &[0xb0, 0x7c, 0],
+            &[0xb0, 0x79, 0],
+            &[0xb0, 7, 0x41],
+            &[0xb0, 0x7d, 1],
+            &[0xb0, 0x40, 0],
+            &[0xb0, 0x7b, 0],
+            &[0xff],
+            &[0xb0, 0x7e, 1],
+            &[0xb0, 0x40, 0x50],
+        ],
+        alloc,
+    )
+}
+
+/// Moves, Control 121 of this and another channel, a System Reset, and a message that is one.
+#[test]
+fn wheels(rt: HostRuntime) -> Result<(), Fail> {
+    let alloc = rt.alloc();
+    check(
+        &rt,
+        &[
+            &[0xe0, 1, 0x40],
+            &[0xe1, 2, 0x41],
+            &[0xb0, 0x79, 0],
+            &[0xe0, 3, 0x42],
+            &[0xff],
+            &[0xe0, 4, 0x43],
+            &[0xf0, 0x7e, 0x7f, 9, 1, 0xf7],
+            &[0xe1, 5, 0x44],
+        ],
+        alloc,
+    )
+}
+
+/// Struck and released notes, velocity 0, All Notes Off, a mode, and a reset.
+#[test]
+fn notes(rt: HostRuntime) -> Result<(), Fail> {
+    let alloc = rt.alloc();
+    check(
+        &rt,
+        &[
+            &[0x90, 0x3c, 0x64],
+            &[0x90, 0x3e, 0x50],
+            &[0x80, 0x3c, 0x40],
+            &[0xb0, 0x7b, 0],
+            &[0x90, 0x3c, 0x63],
+            &[0x90, 0x3c, 0],
+            &[0x90, 0x40, 1],
+            &[0xb0, 0x7e, 1],
+            &[0x90, 0x3e, 0x62],
+            &[0xff],
+            &[0x90, 0x41, 0x61],
+        ],
+        alloc,
+    )
+}
+
+/// Pressures of a channel and of keys; what ends all notes drops the first, Control 121 both.
+#[test]
+fn pressures(rt: HostRuntime) -> Result<(), Fail> {
+    let alloc = rt.alloc();
+    check(
+        &rt,
+        &[
+            &[0xd0, 0x20],
+            &[0xa0, 0x3c, 0x21],
+            &[0xb0, 0x78, 0],
+            &[0xd0, 0x22],
+            &[0xa0, 0x3d, 0x23],
+            &[0xb0, 0x79, 0],
+            &[0xa0, 0x3c, 0x24],
+            &[0xd0, 0x25],
+            &[0xff],
+            &[0xa0, 0x3c, 0x26],
+        ],
+        alloc,
+    )
+}
+
+/// Songs, with a reset of each kind.
+#[test]
+fn songs(rt: HostRuntime) -> Result<(), Fail> {
+    let alloc = rt.alloc();
+    check(
+        &rt,
+        &[
+            &[0xf3, 1],
+            &[0xf3, 2],
+            &[0xf0, 0x7e, 0, 9, 3, 0xf7],
+            &[0xf3, 3],
+            &[0xff],
+            &[0xf6],
+            &[0xf3, 4],
+        ],
+        alloc,
+    )
+}
+
+/// The song position: started, moved by clocks, stopped, set and continued, with a reset of each kind.
+#[test]
+fn song_positions(rt: HostRuntime) -> Result<(), Fail> {
+    let alloc = rt.alloc();
+    check(
+        &rt,
+        &[
+            &[0xfa],
+            &[0xf8],
+            &[0xf8],
+            &[0xfc],
+            &[0xf2, 5, 1],
+            &[0xff],
+            &[0xf8],
+            &[0xfb],
+            &[0xf0, 0x7e, 0, 9, 1, 0xf7],
+            &[0xfe],
+            &[0xf2, 1, 2],
+        ],
+        alloc,
+    )
+}
+
+/// Quarter frames forward and backward, a word that is completed, and resets.
+#[test]
+fn time_codes(rt: HostRuntime) -> Result<(), Fail> {
+    let alloc = rt.alloc();
+    check(
+        &rt,
+        &[
+            &[0xf1, 1],
+            &[0xf1, 0x12],
+            &[0xf1, 0x75],
+            &[0xff],
+            &[0xf1, 7],
+            &[0xf1, 0x16],
+            &[0xf1, 0x25],
+            &[0xf1, 0x34],
+            &[0xf1, 0x43],
+            &[0xf1, 0x52],
+            &[0xf1, 0x61],
+            &[0xf1, 0x70],
+            &[0xf0, 0x7e, 0, 9, 3, 0xf7],
+            &[0xfe],
+        ],
+        alloc,
+    )
+}

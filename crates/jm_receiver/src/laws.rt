@@ -1,0 +1,54 @@
+//! The law of repair, part by part. Where a state that has all packets before one is repaired by the logs of a later packet's
+//! journal, and the journal's checkpoint isn't later than the first packet that the state lacks, the part is as all commands
+//! before the later packet leave it. So it is for a receiver before its first packet, where the checkpoint is packet 0. Each
+//! law is the contract of a function that does nothing; commands stand in the order of their packets.
+
+ghost use Rattle.jm_receiver.specs.Laws.{ProgramsAreRepaired, ControlsAreRepaired, WheelsAreRepaired, NotesAreRepaired, PressuresAreRepaired, SongIsRepaired, SequencerIsRepaired, TimeCodeIsRepaired};
+
+/// The program of each channel is repaired, with the bank that it was chosen with.
+#[tactic(auto, using(crate::specs::ProgramLaw::program_repaired))]
+pub fn programs_are_repaired()
+    ensures { ProgramsAreRepaired }
+{}
+
+/// The values of the controls of each channel are repaired, two modes that are one part together.
+#[tactic(auto, using(crate::specs::ControlLaw::control_repaired))]
+pub fn controls_are_repaired()
+    ensures { ControlsAreRepaired }
+{}
+
+/// The wheel of each channel is repaired.
+#[tactic(auto, using(crate::specs::WheelLaw::wheel_repaired))]
+pub fn wheels_are_repaired()
+    ensures { WheelsAreRepaired }
+{}
+
+/// Whether each note sounds is repaired, and with which velocity.
+#[tactic(auto, using(crate::specs::NoteLaw::note_repaired))]
+pub fn notes_are_repaired()
+    ensures { NotesAreRepaired }
+{}
+
+/// The pressures of each channel and of each of its keys are repaired.
+#[tactic(auto, using(crate::specs::PressureLaw::pressure_repaired, crate::specs::PolyLaw::poly_repaired))]
+pub fn pressures_are_repaired()
+    ensures { PressuresAreRepaired }
+{}
+
+/// The song is repaired.
+#[tactic(auto, using(crate::specs::SongLaw::song_repaired))]
+pub fn song_is_repaired()
+    ensures { SongIsRepaired }
+{}
+
+/// The song position is repaired, with whether the sequencer runs and whether the position is still to be played.
+#[tactic(auto, using(crate::specs::KnownLaw::sequencer_repaired))]
+pub fn sequencer_is_repaired()
+    ensures { SequencerIsRepaired }
+{}
+
+/// The time code is repaired: what quarter frames have spelled, and how far the next word is.
+#[tactic(auto, using(crate::specs::KnownLaw::time_code_repaired))]
+pub fn time_code_is_repaired()
+    ensures { TimeCodeIsRepaired }
+{}
