@@ -7,7 +7,8 @@ use Rattle.std.proofs.lemmas.List.{take_at, drop_at, take-append-drop, length-ap
 use Rattle.std.proofs.lemmas.Nat.{be_bytes_2, be_bytes_4, be_bytes_8, from_be_bytes-to_be_bytes_2, from_be_bytes-to_be_bytes_4, from_be_bytes-to_be_bytes_8}
 use Rattle.apple_msg.specs.declared.message.MsgFault.{MsgFault}
 use Rattle.apple_msg.specs.declared.message.MsgFault.TheVariants.{Short}
-use Rattle.apple_msg.specs.Reading.{◌>>=◌, number_at, octet_at, behind}
+use Rattle.jm_wire.specs.Readers.{◌>>=◌}
+use Rattle.apple_msg.specs.Reading.{number_at, octet_at, behind}
 use Rattle.apple_msg.specs.Grammar.{AreOctets}
 
 AreOctets-drop : (n : ℕ) (octets : List ℕ) → AreOctets octets → AreOctets (drop n octets)

@@ -7,7 +7,8 @@ use Rattle.std.proofs.lemmas.List.{length-drop, length-append}
 use Rattle.apple_msg.specs.declared.message.Message.TheVariants.{Bye, Clock, Feedback}
 use Rattle.apple_msg.specs.declared.message.MsgFault.{MsgFault}
 use Rattle.apple_msg.specs.declared.message.MsgFault.TheVariants.{Short}
-use Rattle.apple_msg.specs.Reading.{◌>>=◌, number_at, octet_at, behind, header_at, bye_at, clock_at, feedback_at}
+use Rattle.jm_wire.specs.Readers.{◌>>=◌}
+use Rattle.apple_msg.specs.Reading.{number_at, octet_at, behind, header_at, bye_at, clock_at, feedback_at}
 use Rattle.apple_msg.specs.Spelling.{marked, header}
 use Rattle.apple_msg.specs.Grammar.{AreOctets, Spells}
 use Rattle.apple_msg.proofs.Fields.{match_bind, wide16, wide32, wide64, IsShort, TakesNumber, number_cases, number_again, number_long, number_short, Skips, behind_cases, behind_again, behind_short, behind_long, octet_cases}

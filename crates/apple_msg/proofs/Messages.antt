@@ -10,7 +10,8 @@ use Rattle.std.proofs.lemmas.List.Elements.{recursion_from_All, All-from_get_or}
 use Rattle.apple_msg.specs.declared.message.Invitation.{Invitation}
 use Rattle.apple_msg.specs.declared.message.MsgFault.{MsgFault}
 use Rattle.apple_msg.specs.declared.message.MsgFault.TheVariants.{Short, Version, NameNotEnded}
-use Rattle.apple_msg.specs.Reading.{◌>>=◌, number_at, is_end, header_at, name_at, invitation_at}
+use Rattle.jm_wire.specs.Readers.{◌>>=◌}
+use Rattle.apple_msg.specs.Reading.{number_at, is_end, header_at, name_at, invitation_at}
 use Rattle.apple_msg.specs.Spelling.{header}
 use Rattle.apple_msg.specs.Grammar.{AreOctets, NamesAs}
 use Rattle.apple_msg.proofs.Fields.{match_bind, wide32, IsShort, TakesNumber, number_cases, number_again, number_long, number_short}

@@ -11,7 +11,8 @@ use Rattle.apple_msg.specs.declared.message.Verb.{Verb}
 use Rattle.apple_msg.specs.declared.message.Verb.TheVariants as verbs
 use Rattle.apple_msg.specs.declared.message.MsgFault.{MsgFault}
 use Rattle.apple_msg.specs.declared.message.MsgFault.TheVariants.{NotApple, UnknownVerb, Short, Version, NameNotEnded}
-use Rattle.apple_msg.specs.Reading.{◌>>=◌, behind_mark, verb_of, known, verb_at, invitation_at, bye_at, clock_at, feedback_at, read_as, read}
+use Rattle.jm_wire.specs.Readers.{◌>>=◌}
+use Rattle.apple_msg.specs.Reading.{behind_mark, verb_of, known, verb_at, invitation_at, bye_at, clock_at, feedback_at, read_as, read}
 use Rattle.apple_msg.specs.Spelling.{marked, header, text, IsMessage, IsInvitation}
 use Rattle.apple_msg.specs.Grammar.{AreOctets, Spells, SpellsInvitation, fixed, has_name, has_version, LacksMark, IsOf, IsFirstFault, MessagesReadBack, ReadsWhatIsSpelled, ReadsFirstFault}
 use Rattle.apple_msg.proofs.Fields.{match_bind, IsShort}

@@ -30,7 +30,7 @@ pub record IsAbsent (octets name : List ℕ) : Type 0 where
   pub nothing : octets ≡ []
   pub empty : name ≡ []
 
-abbrev pub NamesAs : List ℕ → List ℕ → Type 0
+abbrev pub NamesAs : (octets name : List ℕ) → Type 0
 NamesAs octets name = IsAbsent octets name ⊎ IsEnded octets name
 
 pub record SpellsInvitation (first second : ℕ) (octets : List ℕ) (token ssrc : ℕ) (name : List ℕ) : Type 0 where

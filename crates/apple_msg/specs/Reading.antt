@@ -1,6 +1,7 @@
 -- Reading a message from the front, with the first fault.
 use Rattle.std.specs.Prelude.{◌≡◌, ℕ, Bool, ◌&&◌, List, [], ◌∷◌, length, take, drop, Option, Some, None, Result, Ok, Err, nat_lt, ◌==◌, if◌then◌else◌, position}
 use Rattle.std.specs.Int.{Width, w16, w32, w64, byte_len, from_be_bytes}
+use Rattle.jm_wire.specs.Readers.{◌>>=◌}
 use Rattle.apple_msg.specs.declared.message.MsgFault.{MsgFault}
 use Rattle.apple_msg.specs.declared.message.MsgFault.TheVariants.{NotApple, UnknownVerb, Short, Version, NameNotEnded}
 use Rattle.apple_msg.specs.declared.message.Message.{Message}
@@ -8,11 +9,6 @@ use Rattle.apple_msg.specs.declared.message.Message.TheVariants.{Invite, Accept,
 use Rattle.apple_msg.specs.declared.message.Verb.{Verb}
 use Rattle.apple_msg.specs.declared.message.Verb.TheVariants as verbs
 use Rattle.apple_msg.specs.declared.message.Invitation.{Invitation}
-
-infixl 10 ◌>>=◌
-abbrev pub ◌>>=◌ : {A B : Type 0} → Result A MsgFault → (A → Result B MsgFault) → Result B MsgFault
-(Ok x) >>= f = f x
-(Err e) >>= f = Err e
 
 -- What a function returned, seen by view, is what reading gives.
 abbrev pub Gives : {X Y : Type 0} → (X → Y) → Result X MsgFault → Result Y MsgFault → Type 0
@@ -28,7 +24,7 @@ abbrev pub octet_at : List ℕ → Result (ℕ × List ℕ) MsgFault
 octet_at [] = Err Short
 octet_at (octet ∷ rest) = Ok (octet, rest)
 
-abbrev pub behind : ℕ → List ℕ → Result (List ℕ) MsgFault
+abbrev pub behind : (count : ℕ) (octets : List ℕ) → Result (List ℕ) MsgFault
 behind count octets = if nat_lt (length octets) count then Err Short else Ok (drop count octets)
 
 -- ---- what begins every message
@@ -39,7 +35,7 @@ behind_mark (first ∷ second ∷ rest) = if (first == 255) && (second == 255) t
 behind_mark (first ∷ []) = Err NotApple
 behind_mark [] = Err NotApple
 
-abbrev pub verb_of : ℕ → ℕ → Option Verb
+abbrev pub verb_of : (first second : ℕ) → Option Verb
 verb_of first second =
     if (first == 73) && (second == 78) then Some verbs.Invite
     else (if (first == 79) && (second == 75) then Some verbs.Accept
@@ -73,7 +69,7 @@ abbrev pub is_end : ℕ → Bool
 is_end octet = octet == 0
 
 -- the octets of a name that ends at this place, of which 63 are kept
-abbrev pub ended : Option ℕ → List ℕ → Result (List ℕ) MsgFault
+abbrev pub ended : (end : Option ℕ) (octets : List ℕ) → Result (List ℕ) MsgFault
 ended (Some end) octets = Ok (take 63 (take end octets))
 ended None octets = Err NameNotEnded
 

@@ -7,15 +7,15 @@ use Rattle.apple_msg.specs.declared.message.Message.TheVariants.{Invite, Accept,
 use Rattle.apple_msg.specs.Name.{IsName}
 
 -- FF FF and two letters before the fields
-abbrev pub marked : ℕ → ℕ → List ℕ → List ℕ
+abbrev pub marked : (first second : ℕ) (fields : List ℕ) → List ℕ
 marked first second fields = 255 ∷ 255 ∷ first ∷ second ∷ fields
 
 -- version 2, token and SSRC
-abbrev pub header : ℕ → ℕ → List ℕ → List ℕ
+abbrev pub header : (token ssrc : ℕ) (rest : List ℕ) → List ℕ
 header token ssrc rest = be32 2 ++ (be32 token ++ (be32 ssrc ++ rest))
 
 -- three times
-abbrev pub moments : List ℕ → List ℕ
+abbrev pub moments : (times : List ℕ) → List ℕ
 moments times = be64 (slice_index times 0) ++ (be64 (slice_index times 1) ++ be64 (slice_index times 2))
 
 -- the one text that is written of a message

@@ -101,28 +101,62 @@ fn faults(rt: HostRuntime) {
     }
 }
 
+/// Octets, and what is written of the message that they spell: what a reader does not look at is 0 there, and
+/// nothing stands behind it.
+const PASSED_OVER: [(&[u8], &[u8]); 7] = [
+    (
+        b"\xFF\xFFIN\x00\x00\x00\x02\x01\x02\x03\x04\x00\x00\x00\x22a\x00b\x00",
+        INVITATION,
+    ),
+    (
+        b"\xFF\xFFNO\x00\x00\x00\x02\x01\x02\x03\x04\x00\x00\x00\x22",
+        b"\xFF\xFFNO\x00\x00\x00\x02\x01\x02\x03\x04\x00\x00\x00\x22\x00",
+    ),
+    (
+        b"\xFF\xFFNO\x00\x00\x00\x02\x01\x02\x03\x04\x00\x00\x00\x22\x00a",
+        b"\xFF\xFFNO\x00\x00\x00\x02\x01\x02\x03\x04\x00\x00\x00\x22\x00",
+    ),
+    (
+        b"\xFF\xFFBY\x00\x00\x00\x02\x01\x02\x03\x04\x00\x00\x00\x22\xFF",
+        BYE,
+    ),
+    (
+        b"\xFF\xFFCK\x00\x00\x00\x22\x02\x01\x02\x03\x00\x00\x00\x00\x00\x00\x00\x0A\x00\x00\x00\x00\x00\x00\x00\x32\x00\x00\x00\x00\x00\x00\x00\x0E\x0F",
+        LAST_CLOCK,
+    ),
+    (b"\xFF\xFFRS\x00\x00\x00\x22\x00\x01\xFF\xFE\xFD", FEEDBACK),
+    (b"\xFF\xFFRL\x00\x00\x00\x22", b"\xFF\xFFRL"),
+];
+
+#[test]
+fn what_is_passed_over(rt: HostRuntime) -> Result<(), Fail> {
+    for (octets, written) in PASSED_OVER {
+        let out = rewritten(rt.alloc(), octets)?;
+        assert_eq!(rt; out.as_slice(), written);
+    }
+    Ok(())
+}
+
+/// An invitation with a name of this many octets, at most 64, none of them 0.
+fn named(alloc: Global, count: usize) -> Result<Octets, Fail> {
+    let mut out = Octets::with_room(90, alloc)?;
+    out.push_slice(&INVITATION[..16]);
+    out.push_slice(&[b'n'; 64][..count.min(64)]);
+    out.push(0);
+    Ok(out)
+}
+
 #[test]
 fn names(rt: HostRuntime) -> Result<(), Fail> {
-    let bare = rewritten(rt.alloc(), &INVITATION[..16])?;
-    assert_eq!(rt;
-        bare.as_slice(),
-        b"\xFF\xFFIN\x00\x00\x00\x02\x01\x02\x03\x04\x00\x00\x00\x22\x00".as_slice()
-    );
-    let mut long = Octets::with_room(90, rt.alloc())?;
-    long.push_slice(&INVITATION[..16]);
-    for _ in 0..64u8 {
-        if long.spare() > 1 {
-            long.push(b'n');
-        }
+    for (count, written) in [(0usize, 17usize), (62, 79), (63, 80), (64, 80)] {
+        let octets = named(rt.alloc(), count)?;
+        let kept = rewritten(rt.alloc(), octets.as_slice())?;
+        assert_eq!(rt; kept.as_slice().len(), written);
     }
-    if long.spare() > 1 {
-        long.push(0);
-    }
-    let kept = rewritten(rt.alloc(), long.as_slice())?;
-    assert_eq!(rt; long.as_slice().len(), 81);
-    assert_eq!(rt; kept.as_slice().len(), 80);
     let name = Name::new(b"midi_host").ok_or("a name")?;
     assert_eq!(rt; name.copy().as_slice(), b"midi_host".as_slice());
+    assert!(rt; Name::new(&[b'n'; 63]).is_some());
+    assert!(rt; Name::new(&[b'n'; 64]).is_none());
     assert!(rt; Name::new(b"a\x00b").is_none());
     Ok(())
 }

@@ -20,12 +20,12 @@ pub data Call : Type 0 where
   dropped : ℕ → Call
 
 -- the peers after a call
-abbrev pub after_call : ℕ → List ℕ → List Peer → Call → List Peer
+abbrev pub after_call : (ssrc : ℕ) (name : List ℕ) → List Peer → Call → List Peer
 after_call ssrc name peers (heard room port from message now) = (step (record { ssrc = ssrc; name = name; peers = peers }) room port from message now).peers
 after_call ssrc name peers (dropped other) = without other peers
 
 -- the peers of a host with this SSRC and name after these calls, the first of them first
-abbrev pub peers_after : ℕ → List ℕ → List Call → List Peer
+abbrev pub peers_after : (ssrc : ℕ) (name : List ℕ) → List Call → List Peer
 peers_after ssrc name calls = fold (after_call ssrc name) [] calls
 
 -- ---- at any time there are at most 32 peers, no two of one SSRC, and none of the host's
@@ -136,7 +136,7 @@ abbrev pub is_joined_one : Option Peer → Bool
 is_joined_one (Some peer) = is_joined peer
 is_joined_one None = false
 
-abbrev pub takes_part : ℕ → List Peer → Bool
+abbrev pub takes_part : (ssrc : ℕ) → List Peer → Bool
 takes_part ssrc peers = is_joined_one (peer_of ssrc peers)
 
 -- a peer takes part from its Join to its Leave

@@ -5,3 +5,6 @@ pub mod Conduct
 pub mod PeerLists
 pub mod Steps
 pub mod Others
+pub mod Acts
+pub mod Answered
+pub mod AnswerLaws

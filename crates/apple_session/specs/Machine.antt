@@ -27,10 +27,10 @@ abbrev pub replied : Message → Act → List Peer → Outcome
 replied reply act peers = record { answer = record { reply = Some reply; act = act }; peers = peers }
 
 -- OK and NO carry the token of the invitation, and the host's own SSRC and name
-abbrev pub accepted : Host → ℕ → Act → List Peer → Outcome
+abbrev pub accepted : Host → (token : ℕ) → Act → List Peer → Outcome
 accepted host token act peers = replied (Accept token host.ssrc host.name) act peers
 
-abbrev pub rejected : Host → ℕ → Outcome
+abbrev pub rejected : Host → (token : ℕ) → Outcome
 rejected host token = replied (Reject token host.ssrc host.name) Plain host.peers
 
 -- what the end of a peer comes to
@@ -48,7 +48,7 @@ newly_invited host peer (Some others) = accepted host peer.token Plain (others +
 newly_invited host peer None = rejected host peer.token
 
 -- one that is there already; another token begins anew
-abbrev pub invited_again : Host → Peer → Peer → Outcome
+abbrev pub invited_again : Host → (peer old : Peer) → Outcome
 invited_again host peer old =
     if old.token == peer.token then accepted host peer.token Plain host.peers
     else accepted host peer.token (ends old) (replaced peer host.peers)
@@ -57,27 +57,27 @@ abbrev pub invited : Host → Peer → Option Peer → Outcome
 invited host peer (Some old) = invited_again host peer old
 invited host peer None = newly_invited host peer (with_room host.peers)
 
-abbrev pub on_control : Host → Addr → ℕ → ℕ → Outcome
+abbrev pub on_control : Host → Addr → (token ssrc : ℕ) → Outcome
 on_control host from token ssrc =
     if ssrc == host.ssrc then rejected host token
     else invited host (record { ssrc = ssrc; token = token; control = from; «data» = None }) (peer_of ssrc host.peers)
 
 -- ---- an invitation on the data port
 
-abbrev pub joining : Host → Bool → Addr → Peer → Outcome
+abbrev pub joining : Host → (room : Bool) → Addr → Peer → Outcome
 joining host room from peer =
     if is_joined peer then accepted host peer.token Plain host.peers
     else (if room then accepted host peer.token (Join peer.ssrc) (replaced (record peer { «data» = Some from }) host.peers)
     else rejected host peer.token)
 
-abbrev pub called : Host → Bool → Addr → ℕ → Option Peer → Outcome
+abbrev pub called : Host → (room : Bool) → Addr → (token : ℕ) → Option Peer → Outcome
 called host room from token (Some peer) = if peer.token == token then joining host room from peer else rejected host token
 called host room from token None = rejected host token
 
-abbrev pub on_data : Host → Bool → Addr → ℕ → ℕ → Outcome
+abbrev pub on_data : Host → (room : Bool) → Addr → (token ssrc : ℕ) → Outcome
 on_data host room from token ssrc = called host room from token (peer_of ssrc host.peers)
 
-abbrev pub on_invite : Host → Bool → PortKind → Addr → ℕ → ℕ → Outcome
+abbrev pub on_invite : Host → (room : Bool) → PortKind → Addr → (token ssrc : ℕ) → Outcome
 on_invite host room Ctl from token ssrc = on_control host from token ssrc
 on_invite host room Rtp from token ssrc = on_data host room from token ssrc
 
@@ -96,19 +96,19 @@ of_joined host None outcome = silent (Ignored Unknown) host.peers
 abbrev pub offset : List ℕ → ℤ
 offset times = pos ((slice_index times 0 + slice_index times 2) / 2) -ℤ pos (slice_index times 1)
 
-abbrev pub counted : Host → ℕ → List ℕ → ℕ → Outcome
+abbrev pub counted : Host → (count : ℕ) (times : List ℕ) (now : ℕ) → Outcome
 counted host count times now =
     if count == 0 then replied (Clock host.ssrc 1 (slice_index times 0 ∷ now ∷ 0 ∷ [])) Plain host.peers
     else (if count == 2 then silent (Clocked (offset times)) host.peers
     else silent (Ignored NotUsed) host.peers)
 
-abbrev pub on_clock : Host → PortKind → ℕ → ℕ → List ℕ → ℕ → Outcome
+abbrev pub on_clock : Host → PortKind → (ssrc count : ℕ) (times : List ℕ) (now : ℕ) → Outcome
 on_clock host Ctl ssrc count times now = silent (Ignored WrongPort) host.peers
 on_clock host Rtp ssrc count times now = of_joined host (peer_of ssrc host.peers) (counted host count times now)
 
 -- ---- any message
 
-unfoldable pub step : Host → Bool → PortKind → Addr → Message → ℕ → Outcome
+unfoldable pub step : Host → (room : Bool) → PortKind → Addr → Message → (now : ℕ) → Outcome
 step host room port from (Invite token ssrc name) now = on_invite host room port from token ssrc
 step host room port from (Accept token ssrc name) now = silent (Ignored NotUsed) host.peers
 step host room port from (Reject token ssrc name) now = silent (Ignored NotUsed) host.peers

@@ -82,6 +82,31 @@ peer_of-without_own ssrc (peer ∷ peers) =
       | false ↦ λ e. rw e (peer_of-without_own ssrc peers)
     ] refl
 
+-- ---- the peer of the SSRC itself
+
+pub peer_of-replaced_own : (q : Peer) (peers : List Peer) (old : Peer) → peer_of q.ssrc peers ≡ Some old → peer_of q.ssrc (replaced q peers) ≡ Some q
+peer_of-replaced_own q [] old e = absurd cc
+peer_of-replaced_own q (peer ∷ peers) old e =
+    elim (eqb peer.ssrc q.ssrc) as (λ (b : Bool). eqb peer.ssrc q.ssrc ≡ b → cond b (Some peer) (peer_of q.ssrc peers) ≡ Some old → peer_of q.ssrc (cond b q peer ∷ replaced q peers) ≡ Some q) [
+      | true ↦ λ t e. rw (eq-eqb q.ssrc q.ssrc refl) refl
+      | false ↦ λ t e. rw t (peer_of-replaced_own q peers old e)
+    ] refl e
+
+pub peer_of-push_own : (q : Peer) (peers : List Peer) → peer_of q.ssrc peers ≡ None → peer_of q.ssrc (peers ++ q ∷ []) ≡ Some q
+peer_of-push_own q [] e = rw (eq-eqb q.ssrc q.ssrc refl) refl
+peer_of-push_own q (peer ∷ peers) e =
+    elim (eqb peer.ssrc q.ssrc) as (λ (b : Bool). cond b (Some peer) (peer_of q.ssrc peers) ≡ None → cond b (Some peer) (peer_of q.ssrc (peers ++ q ∷ [])) ≡ Some q) [
+      | true ↦ λ e. absurd cc
+      | false ↦ λ e. peer_of-push_own q peers e
+    ] e
+
+pub peer_of-none_without : (ssrc gone : ℕ) (peers : List Peer) → peer_of ssrc peers ≡ None → peer_of ssrc (without gone peers) ≡ None
+peer_of-none_without ssrc gone peers e =
+    elim (eqb gone ssrc) as (λ (b : Bool). eqb gone ssrc ≡ b → peer_of ssrc (without gone peers) ≡ None) [
+      | true ↦ λ t. subst (λ (s : ℕ). peer_of ssrc (without s peers) ≡ None) (sym (eqb-true gone ssrc t)) (peer_of-without_own ssrc peers)
+      | false ↦ λ t. peer_of-without ssrc gone peers (eqb-false gone ssrc t) ∙ e
+    ] refl
+
 -- ---- room for one more
 
 pub record HadRoom (peers others : List Peer) : Type 0 where
@@ -191,7 +216,7 @@ joined_stay host room port from message now peer o ne own joined =
 
 -- ---- the order stays
 
-ssrcs-replaced : (q : Peer) (peers : List Peer) → ssrcs (replaced q peers) ≡ ssrcs peers
+pub ssrcs-replaced : (q : Peer) (peers : List Peer) → ssrcs (replaced q peers) ≡ ssrcs peers
 ssrcs-replaced q [] = refl
 ssrcs-replaced q (peer ∷ peers) =
     elim (eqb peer.ssrc q.ssrc) as (λ (b : Bool). eqb peer.ssrc q.ssrc ≡ b → ssrcs (cond b q peer ∷ replaced q peers) ≡ ssrcs (peer ∷ peers)) [
@@ -199,10 +224,11 @@ ssrcs-replaced q (peer ∷ peers) =
       | false ↦ λ e. ap (λ (xs : List ℕ). peer.ssrc ∷ xs) (ssrcs-replaced q peers)
     ] refl
 
-abbrev is_other : ℕ → ℕ → Bool
+-- another SSRC than this one
+abbrev pub is_other : (ssrc other : ℕ) → Bool
 is_other ssrc s = not (eqb s ssrc)
 
-ssrcs-without : (ssrc : ℕ) (peers : List Peer) → ssrcs (without ssrc peers) ≡ filter (is_other ssrc) (ssrcs peers)
+pub ssrcs-without : (ssrc : ℕ) (peers : List Peer) → ssrcs (without ssrc peers) ≡ filter (is_other ssrc) (ssrcs peers)
 ssrcs-without ssrc [] = refl
 ssrcs-without ssrc (peer ∷ peers) =
     elim (eqb peer.ssrc ssrc) as (λ (b : Bool). ssrcs (cond (not b) (peer ∷ without ssrc peers) (without ssrc peers)) ≡ cond (not b) (peer.ssrc ∷ filter (is_other ssrc) (ssrcs peers)) (filter (is_other ssrc) (ssrcs peers))) [
@@ -210,14 +236,14 @@ ssrcs-without ssrc (peer ∷ peers) =
       | false ↦ ap (λ (xs : List ℕ). peer.ssrc ∷ xs) (ssrcs-without ssrc peers)
     ]
 
-ssrcs-push : (q : Peer) (peers : List Peer) → ssrcs (peers ++ q ∷ []) ≡ ssrcs peers ++ q.ssrc ∷ []
+pub ssrcs-push : (q : Peer) (peers : List Peer) → ssrcs (peers ++ q ∷ []) ≡ ssrcs peers ++ q.ssrc ∷ []
 ssrcs-push q [] = refl
 ssrcs-push q (peer ∷ peers) = ap (λ (xs : List ℕ). peer.ssrc ∷ xs) (ssrcs-push q peers)
 
-abbrev all : ℕ → Bool
+abbrev pub all : ℕ → Bool
 all s = true
 
-filter-all : (xs : List ℕ) → filter all xs ≡ xs
+pub filter-all : (xs : List ℕ) → filter all xs ≡ xs
 filter-all [] = refl
 filter-all (x ∷ xs) = ap (λ (ys : List ℕ). x ∷ ys) (filter-all xs)
 

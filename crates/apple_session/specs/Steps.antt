@@ -16,7 +16,7 @@ use Rattle.apple_session.specs.declared.answer.Why.TheVariants.{Unknown, NotJoin
 use Rattle.apple_session.specs.Machine.{Outcome, accepted, rejected, replied, ends, offset, with_room, newly_invited, invited, on_control, joining, called, on_data, gone, of_joined, silent, counted, step}
 
 -- the peer that an invitation on the control port would make
-abbrev pub guest_of : Addr → ℕ → ℕ → Peer
+abbrev pub guest_of : Addr → (token ssrc : ℕ) → Peer
 guest_of from token ssrc = record { ssrc = ssrc; token = token; control = from; «data» = None }
 
 abbrev pub joined_at : Addr → Peer → Peer

@@ -15,6 +15,7 @@ mod peer;
 mod session;
 
 pub use answer::{Act, Answer, PortKind, Why};
+pub use clock::offset;
 pub use peer::Peer;
 pub use session::Session;
 
