@@ -1,4 +1,6 @@
+pub mod Changing
+pub mod Fitting
 pub mod Listing
 pub mod OneMore
-pub mod Outcomes
+pub mod Picking
 pub mod Weaving

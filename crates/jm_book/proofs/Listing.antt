@@ -1,14 +1,10 @@
 -- One more pending command: its place in the plain list, and what it adds to the MIDI list.
 use Rattle.std.proofs.Common.{ℕ, ◌≡◌, ◌-◌, ◌<◌, ◌^◌, refl, ap, true, List, [], ◌∷◌, ◌++◌, length, arith}
-use Rattle.std.proofs.lemmas.Bool.Decides.{nat_tests}
-use Rattle.std.specs.Prelude.{nat_lt}
-use Rattle.jm_book.proofs.Outcomes.{and_true}
 use Rattle.jm_cmds.specs.declared.history.Sent.{Sent}
 use Rattle.jm_section.specs.declared.next.Place.TheVariants.{First}
 use Rattle.jm_section.specs.Section.{Timed, piece, list_text}
 use Rattle.jm_section.specs.Pieces.{place_behind, pieces-push}
-use Rattle.jm_book.specs.Pending.{timed_after, timed_of, first_tick, last_tick, have_fields}
-use Rattle.jm_book.specs.Session.{Entry, packet_tick, as_sent}
+use Rattle.jm_book.specs.Pending.{timed_after, timed_of, last_tick}
 
 pub last_tick_push : (other : ℕ) (sent : List Sent) (one : Sent) → last_tick other (sent ++ one ∷ []) ≡ one.tick
 last_tick_push other [] one = refl
@@ -27,21 +23,7 @@ pub last_tick_any : (other another : ℕ) (sent : List Sent) → 0 < length sent
 last_tick_any other another [] some = absurd (omega arith)
 last_tick_any other another (first ∷ others) some = refl
 
-pub have_fields_push : (timed : List Timed) (one : Timed) → have_fields timed ≡ true → one.delta < 2 ^ 28 → have_fields (timed ++ one ∷ []) ≡ true
-have_fields_push [] one all last = grind (arith, nat_tests)
-have_fields_push (first ∷ others) one all last =
-    let split = and_true (nat_lt first.delta (2 ^ 28)) (have_fields others) all in
-    rw (split.0, have_fields_push others one split.1 last) refl
-
 -- the text with one more command
 pub list_text_push : (sent : List Sent) (one : Sent) → list_text (timed_of (sent ++ one ∷ [])) ≡ list_text (timed_of sent) ++ piece (place_behind First (timed_of sent)) record { delta = one.tick - last_tick one.tick sent; command = one.command }
 list_text_push sent one =
     rw (timed_of_push sent one) (pieces-push First (timed_of sent) record { delta = one.tick - last_tick one.tick sent; command = one.command })
-
-pub timed_of_is : (other : ℕ) (sent : List Sent) → timed_of sent ≡ timed_after (first_tick other sent) sent
-timed_of_is other [] = refl
-timed_of_is other (first ∷ others) = refl
-
-pub packet_tick_is : (packet tick : ℕ) (entries : List Entry) → packet_tick entries tick ≡ first_tick tick (as_sent packet entries)
-packet_tick_is packet tick [] = refl
-packet_tick_is packet tick (first ∷ others) = refl

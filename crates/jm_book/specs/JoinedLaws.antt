@@ -1,43 +1,34 @@
--- The participants of legal lists of steps: their marks, their SSRCs, their slots, and the checkpoint.
-use Rattle.std.proofs.Common.{◌≢◌, ◌++◌, ℕ, zero, suc, ◌+◌, ◌<◌, ◌≤◌, ◌≡◌, refl, ap, true, false, List, [], ◌∷◌, Some, map, length, inl, inr, arith}
+-- The participants of a session: their marks, their SSRCs and their slots, where one changes, joins or leaves.
+use Rattle.std.proofs.Common.{◌≢◌, ◌++◌, ℕ, zero, suc, ◌+◌, ◌<◌, ◌≤◌, ◌≡◌, refl, ap, sym, ◌∙◌, true, false, Bool, List, [], ◌∷◌, Some, map, length, inl, inr, arith}
 use Rattle.std.specs.Prelude.{nat_eq, nat_le, ◌==◌, is_some}
-use Rattle.std.specs.List.{AllByRecursion, filter, list_any}
+use Rattle.std.specs.List.{AllByRecursion, IsDistinct, filter, list_any}
 use Rattle.std.specs.Cmp.{nat_eq_equiv}
 use Rattle.std.proofs.lemmas.Bool.{cases_Bool, eqb-true}
 use Rattle.std.proofs.lemmas.Bool.Decides.{nat_tests}
 use Rattle.jm_book.specs.declared.participants.Participant.{Participant}
-use Rattle.jm_book.specs.Session.{find_joined, has_slot, free_from, free_slot, moved}
+use Rattle.jm_book.specs.Participants.{find_joined, is_member, has_slot, free_from, free_slot, changed, moved, noted, others_than, ssrcs_of, slots_of}
 
--- ---- lists of participants
+-- ---- one that changes
 
-abbrev pub ssrcs_of : List Participant → List ℕ
-ssrcs_of joined = map (λ (one : Participant). one.ssrc) joined
-
-abbrev pub slots_of : List Participant → List ℕ
-slots_of joined = map (λ (one : Participant). one.slot) joined
-
--- a mark that moves is all that changes
-pub ssrcs_moved : (ssrc mark : ℕ) (joined : List Participant) → ssrcs_of (moved ssrc mark joined) ≡ ssrcs_of joined
-ssrcs_moved ssrc mark [] = refl
-ssrcs_moved ssrc mark (one ∷ others) = elim (cases_Bool (one.ssrc == ssrc)) [
-  | inl t ↦ rw t refl
-  | inr f ↦ rw f (ap (λ (ssrcs : List ℕ). one.ssrc ∷ ssrcs) (ssrcs_moved ssrc mark others))
+-- what all have still stands where the changed one has it
+pub changed_all : (P : Participant → Type 0) (change : Participant → Participant) (ssrc : ℕ) (joined : List Participant) → ((one : Participant) → P one → P (change one)) → AllByRecursion P joined → AllByRecursion P (changed change ssrc joined)
+changed_all P change ssrc [] keeps h = tt
+changed_all P change ssrc (one ∷ others) keeps h = elim (cases_Bool (one.ssrc == ssrc)) [
+  | inl t ↦ rw t (keeps one h.0, h.1)
+  | inr f ↦ rw f (h.0, changed_all P change ssrc others keeps h.1)
 ]
 
-pub slots_moved : (ssrc mark : ℕ) (joined : List Participant) → slots_of (moved ssrc mark joined) ≡ slots_of joined
-slots_moved ssrc mark [] = refl
-slots_moved ssrc mark (one ∷ others) = elim (cases_Bool (one.ssrc == ssrc)) [
-  | inl t ↦ rw t refl
-  | inr f ↦ rw f (ap (λ (slots : List ℕ). one.slot ∷ slots) (slots_moved ssrc mark others))
+-- a field that the change leaves
+pub field_changed : (field : Participant → ℕ) (change : Participant → Participant) (ssrc : ℕ) (joined : List Participant) → ((one : Participant) → field (change one) ≡ field one) → map field (changed change ssrc joined) ≡ map field joined
+field_changed field change ssrc [] keeps = refl
+field_changed field change ssrc (one ∷ others) keeps = elim (cases_Bool (one.ssrc == ssrc)) [
+  | inl t ↦ rw (t, keeps one) refl
+  | inr f ↦ rw f (ap (λ (rest : List ℕ). field one ∷ rest) (field_changed field change ssrc others keeps))
 ]
 
 -- what holds of all marks, and of the moved one
 pub marks_moved : (P : ℕ → Type 0) (ssrc mark : ℕ) (joined : List Participant) → P mark → AllByRecursion (λ one. P one.mark) joined → AllByRecursion (λ one. P one.mark) (moved ssrc mark joined)
-marks_moved P ssrc mark [] here h = tt
-marks_moved P ssrc mark (one ∷ others) here h = elim (cases_Bool (one.ssrc == ssrc)) [
-  | inl t ↦ rw t (here, h.1)
-  | inr f ↦ rw f (h.0, marks_moved P ssrc mark others here h.1)
-]
+marks_moved P ssrc mark joined here h = changed_all (λ one. P one.mark) (λ one. record one { mark = mark }) ssrc joined (λ one old. here) h
 
 -- a found participant has what all have
 pub found_all : (P : Participant → Type 0) (ssrc : ℕ) (joined : List Participant) (one : Participant) → find_joined ssrc joined ≡ Some one → AllByRecursion P joined → P one
@@ -47,22 +38,84 @@ found_all P ssrc (first ∷ others) one found h = elim (cases_Bool (first.ssrc =
   | inr f ↦ let later : find_joined ssrc others ≡ Some one = rw f at found in found_all P ssrc others one later h.1
 ]
 
--- the moved mark is found, and the marks of others are as they were
-pub find_moved : (ssrc mark : ℕ) (joined : List Participant) (one : Participant) → find_joined ssrc joined ≡ Some one → find_joined ssrc (moved ssrc mark joined) ≡ Some (record one { mark = mark })
-find_moved ssrc mark [] one found = absurd cc
-find_moved ssrc mark (first ∷ others) one found = elim (cases_Bool (first.ssrc == ssrc)) [
-  | inl t ↦ let same : Some first ≡ Some one = rw t at found in let is : first ≡ one = cc in rw (t, t, is) refl
-  | inr f ↦ let later : find_joined ssrc others ≡ Some one = rw f at found in rw (f, f) (find_moved ssrc mark others one later)
+-- the changed one is found, and others are as they were
+pub find_changed : (change : Participant → Participant) (ssrc : ℕ) (joined : List Participant) (one : Participant) → ((other : Participant) → (change other).ssrc ≡ other.ssrc) → find_joined ssrc joined ≡ Some one → find_joined ssrc (changed change ssrc joined) ≡ Some (change one)
+find_changed change ssrc [] one keeps found = absurd cc
+find_changed change ssrc (first ∷ others) one keeps found = elim (cases_Bool (first.ssrc == ssrc)) [
+  | inl t ↦
+      let same : Some first ≡ Some one = rw t at found in
+      let is : first ≡ one = cc in
+      let still : ((change first).ssrc == ssrc) ≡ true = rw (keeps first) t in
+      rw (t, still) (ap (λ (x : Participant). Some (change x)) is)
+  | inr f ↦ let later : find_joined ssrc others ≡ Some one = rw f at found in rw (f, f) (find_changed change ssrc others one keeps later)
 ]
 
-pub find_other : (ssrc mark other : ℕ) (joined : List Participant) → other ≢ ssrc → find_joined other (moved ssrc mark joined) ≡ find_joined other joined
-find_other ssrc mark other [] apart = refl
-find_other ssrc mark other (first ∷ others) apart = elim (cases_Bool (first.ssrc == ssrc)) [
+pub find_other : (change : Participant → Participant) (ssrc other : ℕ) (joined : List Participant) → ((one : Participant) → (change one).ssrc ≡ one.ssrc) → other ≢ ssrc → find_joined other (changed change ssrc joined) ≡ find_joined other joined
+find_other change ssrc other [] keeps apart = refl
+find_other change ssrc other (first ∷ others) keeps apart = elim (cases_Bool (first.ssrc == ssrc)) [
+  | inl t ↦
+      let same : first.ssrc ≡ ssrc = eqb-true first.ssrc ssrc t in
+      let differs : (first.ssrc == other) ≡ false = grind (arith, nat_tests, same, apart) in
+      rw (t, keeps first, differs) refl
+  | inr f ↦ let later = find_other change ssrc other others keeps apart in elim (cases_Bool (first.ssrc == other)) [ inl t ↦ rw (f, t) refl | inr n ↦ rw (f, n) later ]
+]
+
+-- the same are joined
+pub member_changed : (change : Participant → Participant) (ssrc other : ℕ) (joined : List Participant) → ((one : Participant) → (change one).ssrc ≡ one.ssrc) → is_member other (changed change ssrc joined) ≡ is_member other joined
+member_changed change ssrc other [] keeps = refl
+member_changed change ssrc other (first ∷ others) keeps = elim (cases_Bool (first.ssrc == ssrc)) [
+  | inl t ↦ elim (cases_Bool (first.ssrc == other)) [ inl s ↦ rw (t, keeps first, s) refl | inr n ↦ rw (t, keeps first, n) refl ]
+  | inr f ↦ let later = member_changed change ssrc other others keeps in elim (cases_Bool (first.ssrc == other)) [ inl s ↦ rw (f, s) refl | inr n ↦ rw (f, n) later ]
+]
+
+-- ---- one that leaves
+
+pub others_all : (P : Participant → Type 0) (ssrc : ℕ) (joined : List Participant) → AllByRecursion P joined → AllByRecursion P (others_than ssrc joined)
+others_all P ssrc [] h = tt
+others_all P ssrc (one ∷ others) h = elim (cases_Bool (one.ssrc == ssrc)) [
+  | inl t ↦ rw t h.1
+  | inr f ↦ rw f (h.0, others_all P ssrc others h.1)
+]
+
+pub others_field : (P : ℕ → Type 0) (field : Participant → ℕ) (ssrc : ℕ) (joined : List Participant) → AllByRecursion P (map field joined) → AllByRecursion P (map field (others_than ssrc joined))
+others_field P field ssrc [] h = tt
+others_field P field ssrc (one ∷ others) h = elim (cases_Bool (one.ssrc == ssrc)) [
+  | inl t ↦ rw t h.1
+  | inr f ↦ rw f (h.0, others_field P field ssrc others h.1)
+]
+
+pub others_distinct : (field : Participant → ℕ) (ssrc : ℕ) (joined : List Participant) → IsDistinct nat_eq (map field joined) → IsDistinct nat_eq (map field (others_than ssrc joined))
+unfolding IsDistinct
+others_distinct field ssrc [] h = tt
+others_distinct field ssrc (one ∷ others) h = elim (cases_Bool (one.ssrc == ssrc)) [
+  | inl t ↦ rw t h.1
+  | inr f ↦ rw f (others_field (λ key. nat_eq (field one) key ≡ false) field ssrc others h.0, others_distinct field ssrc others h.1)
+]
+
+pub others_length : (ssrc : ℕ) (joined : List Participant) → length (others_than ssrc joined) ≤ length joined
+others_length ssrc [] = omega arith
+others_length ssrc (one ∷ others) = elim (cases_Bool (one.ssrc == ssrc)) [
+  | inl t ↦ rw t (omega arith)
+  | inr f ↦ rw f (omega (arith, others_length ssrc others))
+]
+
+pub find_others : (ssrc other : ℕ) (joined : List Participant) → other ≢ ssrc → find_joined other (others_than ssrc joined) ≡ find_joined other joined
+find_others ssrc other [] apart = refl
+find_others ssrc other (first ∷ others) apart = elim (cases_Bool (first.ssrc == ssrc)) [
   | inl t ↦
       let same : first.ssrc ≡ ssrc = eqb-true first.ssrc ssrc t in
       let differs : (first.ssrc == other) ≡ false = grind (arith, nat_tests, same, apart) in
       rw (t, differs) refl
-  | inr f ↦ let later = find_other ssrc mark other others apart in elim (cases_Bool (first.ssrc == other)) [ inl t ↦ rw (f, t) refl | inr n ↦ rw (f, n) later ]
+  | inr f ↦ let later = find_others ssrc other others apart in elim (cases_Bool (first.ssrc == other)) [ inl t ↦ rw (f, t) refl | inr n ↦ rw (f, n) later ]
+]
+
+-- ---- one that joins
+
+pub member_push : (other : ℕ) (joined : List Participant) (one : Participant) → is_member other joined ≡ true → is_member other (joined ++ one ∷ []) ≡ true
+member_push other [] one h = absurd cc
+member_push other (first ∷ others) one h = elim (cases_Bool (first.ssrc == other)) [
+  | inl t ↦ rw t refl
+  | inr f ↦ let later : is_member other others ≡ true = rw f at h in rw f (member_push other others one later)
 ]
 
 -- one that joins is found

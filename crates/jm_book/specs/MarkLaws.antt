@@ -1,10 +1,10 @@
 -- The checkpoint is the least mark, whatever the session.
-use Rattle.std.proofs.Common.{ℕ, ◌≤◌, ◌<◌, List, [], ◌∷◌, inl, inr, arith}
+use Rattle.std.proofs.Common.{ℕ, ◌-◌, ◌≤◌, ◌<◌, List, [], ◌∷◌, inl, inr, arith}
 use Rattle.std.specs.Prelude.{nat_lt}
 use Rattle.std.specs.List.{AllByRecursion}
 use Rattle.std.proofs.lemmas.Bool.{cases_Bool, ltb-true, ltb-false}
 use Rattle.jm_book.specs.declared.participants.Participant.{Participant}
-use Rattle.jm_book.specs.Session.{Session, least_mark, slowest, mark_or, last_sent, checkpoint_of}
+use Rattle.jm_book.specs.Participants.{least_mark, slowest, mark_or, checkpoint_at}
 
 pub least_mark_at_most_best : (best : Participant) (others : List Participant) → (least_mark best others).mark ≤ best.mark
 least_mark_at_most_best best [] = omega arith
@@ -33,8 +33,8 @@ slowest_at_most other (one ∷ others) =
     (least_mark_at_most_best one others, least_mark_at_most (least_mark one others).mark one others (omega arith))
 
 -- no joined participant's mark is passed
-pub checkpoint_at_most : (session : Session) → AllByRecursion (λ one. checkpoint_of session ≤ one.mark) session.joined
-checkpoint_at_most session = slowest_at_most (last_sent session) session.joined
+pub checkpoint_at_most : (packets : ℕ) (joined : List Participant) → AllByRecursion (λ one. checkpoint_at packets joined ≤ one.mark) joined
+checkpoint_at_most packets joined = slowest_at_most (packets - 1) joined
 
 pub least_mark_at_least : (number : ℕ) (best : Participant) (others : List Participant) → number ≤ best.mark → AllByRecursion (λ one. number ≤ one.mark) others → number ≤ (least_mark best others).mark
 least_mark_at_least number best [] here h = here
@@ -48,13 +48,13 @@ slowest_at_least number other [] sent h = sent
 slowest_at_least number other (one ∷ others) sent h = least_mark_at_least number one others h.0 h.1
 
 -- what no mark and no sent packet is below, the checkpoint isn't either
-pub checkpoint_at_least : (number : ℕ) (session : Session) → number ≤ last_sent session → AllByRecursion (λ one. number ≤ one.mark) session.joined → number ≤ checkpoint_of session
-checkpoint_at_least number session sent h = slowest_at_least number (last_sent session) session.joined sent h
+pub checkpoint_at_least : (number packets : ℕ) (joined : List Participant) → number ≤ packets - 1 → AllByRecursion (λ one. number ≤ one.mark) joined → number ≤ checkpoint_at packets joined
+checkpoint_at_least number packets joined sent h = slowest_at_least number (packets - 1) joined sent h
 
 pub slowest_sent : (other : ℕ) (joined : List Participant) → AllByRecursion (λ one. one.mark ≤ other) joined → mark_or other (slowest joined) ≤ other
 slowest_sent other [] h = omega arith
 slowest_sent other (one ∷ others) h = let least = least_mark_at_most_best one others in omega (arith, h.0)
 
 -- where no mark is past the last sent packet, the checkpoint isn't either
-pub checkpoint_sent : (session : Session) → AllByRecursion (λ one. one.mark ≤ last_sent session) session.joined → checkpoint_of session ≤ last_sent session
-checkpoint_sent session h = slowest_sent (last_sent session) session.joined h
+pub checkpoint_sent : (packets : ℕ) (joined : List Participant) → AllByRecursion (λ one. one.mark ≤ packets - 1) joined → checkpoint_at packets joined ≤ packets - 1
+checkpoint_sent packets joined h = slowest_sent (packets - 1) joined h

@@ -5,7 +5,7 @@ use Rattle.jm_cmds.specs.History.{InOrder}
 use Rattle.jm_cmds.specs.HistoryLaws.{AllByRecursion-weaker, AllByRecursion-append, InOrder-append}
 use Rattle.jm_cmds.specs.Sent.{packet_of}
 use Rattle.jm_book.specs.declared.steps.Step.{Step}
-use Rattle.jm_book.specs.Session.{Session, Entry, Packet, session_of, as_sent, sent_from, sent_of, pending_of}
+use Rattle.jm_book.specs.Stream.{Stream, Entry, Packet, stream_of, as_sent, sent_from, sent_of, pending_of}
 
 -- the commands of one packet have its number
 pub as_sent_all : (P : ℕ → Type 0) (number : ℕ) (entries : List Entry) → P number → AllByRecursion (λ one. P (packet_of one)) (as_sent number entries)
@@ -36,16 +36,16 @@ sent_from_in_order number (one ∷ others) =
     InOrder-append packet_of number (as_sent number one.entries) (sent_from (number + 1) others) (as_sent_in_order number one.entries) (as_sent_all (λ packet. packet ≤ number) number one.entries (omega arith)) later (sent_from_in_order (number + 1) others)
 
 -- packet numbers never fall along the sent commands
-pub sent_in_order : (steps : List Step) → InOrder packet_of (sent_of (session_of steps))
-sent_in_order steps = sent_from_in_order 0 (session_of steps).packets
+pub sent_in_order : (steps : List Step) → InOrder packet_of (sent_of (stream_of steps))
+sent_in_order steps = sent_from_in_order 0 (stream_of steps).packets
 
 -- every sent command is of a packet below the next one
-pub sent_below_next : (session : Session) → AllByRecursion (λ one. packet_of one + 1 ≤ length session.packets) (sent_of session)
-sent_below_next session = sent_from_below 0 session.packets (length session.packets) (omega arith)
+pub sent_below_next : (stream : Stream) → AllByRecursion (λ one. packet_of one + 1 ≤ length stream.packets) (sent_of stream)
+sent_below_next stream = sent_from_below 0 stream.packets (length stream.packets) (omega arith)
 
 -- nor along the sent commands and those pending
-pub all_in_order : (session : Session) → InOrder packet_of (sent_of session ++ pending_of session)
-all_in_order session =
-    let next = length session.packets in
-    let sent = AllByRecursion-weaker (λ one. packet_of one + 1 ≤ next) (λ one. packet_of one ≤ next) (λ one l. omega arith) (sent_of session) (sent_below_next session) in
-    InOrder-append packet_of next (sent_of session) (pending_of session) (sent_from_in_order 0 session.packets) sent (as_sent_all (λ packet. next ≤ packet) next session.pending (omega arith)) (as_sent_in_order next session.pending)
+pub all_in_order : (stream : Stream) → InOrder packet_of (sent_of stream ++ pending_of stream)
+all_in_order stream =
+    let next = length stream.packets in
+    let sent = AllByRecursion-weaker (λ one. packet_of one + 1 ≤ next) (λ one. packet_of one ≤ next) (λ one l. omega arith) (sent_of stream) (sent_below_next stream) in
+    InOrder-append packet_of next (sent_of stream) (pending_of stream) (sent_from_in_order 0 stream.packets) sent (as_sent_all (λ packet. next ≤ packet) next stream.pending (omega arith)) (as_sent_in_order next stream.pending)

@@ -1,47 +1,58 @@
 -- The octets of the packet that a cut makes.
 use Rattle.std.proofs.Common.{refl}
 use Rattle.std.specs.Prelude.{◌≡◌, ℕ, ◌%◌, ◌^◌, Bool, true, false, List, [], ◌++◌, length, nat_lt, if◌then◌else◌}
+use Rattle.jm_cmds.specs.declared.history.Sent.{Sent}
 use Rattle.jm_packet.specs.declared.header.Header.{Header}
 use Rattle.jm_packet.specs.Header.{header}
-use Rattle.jm_section.specs.Section.{list_text, section_of}
-use Rattle.jm_book.specs.declared.steps.Config.{Config}
-use Rattle.jm_book.specs.Session.{Session, packet_tick, pending_of, sent_of, tick_after, checkpoint_of}
+use Rattle.jm_section.specs.Section.{list_text, header as section_header}
 use Rattle.jm_journal.specs.Journal.{journal, HasShortParts}
+use Rattle.jm_book.specs.Stream.{next_packet, next_of, sent_of}
+use Rattle.jm_book.specs.Session.{Session, checkpoint_of}
 use Rattle.jm_book.specs.Pending.{timed_of}
 
 -- the header: the marker says that there is a MIDI list
-abbrev pub header_of : Config → Session → ℕ → Header
-header_of config session tick = record {
-  number = length session.packets % 65536;
-  tick = packet_tick session.pending (tick_after session tick) % 2 ^ 32;
-  ssrc = config.ssrc;
-  marker = nat_lt 0 (length (list_text (timed_of (pending_of session))));
+abbrev pub header_of : (ssrc number tick : ℕ) (list : List ℕ) → Header
+header_of ssrc number tick list = record {
+  number = number % 65536;
+  tick = tick % 2 ^ 32;
+  ssrc = ssrc;
+  marker = nat_lt 0 (length list);
 }
 
 -- each packet but the first has a journal
-abbrev pub has_journal : Session → Bool
-has_journal session = nat_lt 0 (length session.packets)
+abbrev pub has_journal : (number : ℕ) → Bool
+has_journal number = nat_lt 0 number
 
--- the journal of the next packet: what packets from the checkpoint on left, at this packet's tick
-unfoldable pub journal_of : Session → ℕ → List ℕ
-journal_of session tick =
-    if has_journal session then journal (checkpoint_of session) (length session.packets) (packet_tick session.pending (tick_after session tick)) (sent_of session) else []
+-- the journal of the packet with this number and tick: what the packets from the checkpoint on left
+unfoldable pub journal_of : (checkpoint number tick : ℕ) (sent : List Sent) → List ℕ
+journal_of checkpoint number tick sent = if has_journal number then journal checkpoint number tick sent else []
 
--- the packet that a cut at this tick makes of what is pending
-unfoldable pub packet_of : Config → Session → ℕ → List ℕ
-packet_of config session tick =
-    header (header_of config session tick) ++ section_of (timed_of (pending_of session)) (has_journal session) ++ journal_of session tick
+-- the packet with this number, tick and MIDI list, behind these sent commands
+unfoldable pub packet_text : (ssrc checkpoint number tick : ℕ) (list : List ℕ) (sent : List Sent) → List ℕ
+packet_text ssrc checkpoint number tick list sent =
+    header (header_of ssrc number tick list)
+    ++ (section_header (length list) (has_journal number) ++ list)
+    ++ journal_of checkpoint number tick sent
 
-pub journal_of_some : (session : Session) (tick : ℕ) → has_journal session ≡ true → journal_of session tick ≡ journal (checkpoint_of session) (length session.packets) (packet_tick session.pending (tick_after session tick)) (sent_of session)
+-- the packet that a cut at this tick makes
+abbrev pub packet_of : Session → (tick : ℕ) → List ℕ
+packet_of session tick =
+    packet_text session.members.host.ssrc (checkpoint_of session) (length session.stream.packets)
+    (next_packet session.stream tick).packet.tick (list_text (timed_of (next_of session.stream tick))) (sent_of session.stream)
+
+pub journal_of_some : (checkpoint number tick : ℕ) (sent : List Sent) → has_journal number ≡ true → journal_of checkpoint number tick sent ≡ journal checkpoint number tick sent
 unfolding journal_of
-journal_of_some session tick some = rw some refl
+journal_of_some checkpoint number tick sent some = rw some refl
 
-pub journal_of_none : (session : Session) (tick : ℕ) → has_journal session ≡ false → journal_of session tick ≡ []
+pub journal_of_none : (checkpoint number tick : ℕ) (sent : List Sent) → has_journal number ≡ false → journal_of checkpoint number tick sent ≡ []
 unfolding journal_of
-journal_of_none session tick none = rw none refl
+journal_of_none checkpoint number tick sent none = rw none refl
 
--- the journal of the next packet, if it has one, has short parts: at most 1,019 octets of the system journal and 996
--- of each channel's
-abbrev pub HasShortJournal : Session → ℕ → Type 0
-HasShortJournal session tick =
-    has_journal session ≡ true → HasShortParts (checkpoint_of session) (length session.packets) (packet_tick session.pending (tick_after session tick)) (sent_of session)
+-- the journal of a packet, if it has one, has short parts: the system journal, and each channel's
+abbrev pub HasShortJournal : (checkpoint number tick : ℕ) (sent : List Sent) → Type 0
+HasShortJournal checkpoint number tick sent = has_journal number ≡ true → HasShortParts checkpoint number tick sent
+
+-- the journal of the packet that a cut at this tick makes
+abbrev pub HasShortNext : Session → (tick : ℕ) → Type 0
+HasShortNext session tick =
+    HasShortJournal (checkpoint_of session) (length session.stream.packets) (next_packet session.stream tick).packet.tick (sent_of session.stream)

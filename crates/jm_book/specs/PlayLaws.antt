@@ -1,5 +1,5 @@
 -- Each play stands in one packet or is pending, in order.
-use Rattle.std.proofs.Common.{ℕ, suc, ◌+◌, ◌≡◌, refl, ap, sym, ◌∙◌, true, false, List, [], ◌∷◌, ◌++◌, map, Option, Some, None, length, fold, arith, append_assoc, append-nil, add_comm, add-one}
+use Rattle.std.proofs.Common.{ℕ, suc, ◌+◌, ◌≡◌, refl, ap, sym, ◌∙◌, true, false, List, [], ◌∷◌, ◌++◌, map, length, fold, arith, append_assoc, append-nil, add_comm, add-one}
 use Rattle.std.specs.List.{flat_map, filter, range_with_len}
 use Rattle.std.specs.Prelude.{max, ◌==◌, if◌then◌else◌}
 use Rattle.std.proofs.Math.Nat.{max-zero, max_comm}
@@ -8,9 +8,8 @@ use Rattle.std.proofs.lemmas.List.{map-append}
 use Rattle.std.proofs.lemmas.List.Sums.{sum_by-append, sum_by_push}
 use Rattle.jm_cmds.specs.declared.commands.Command.{Command}
 use Rattle.jm_book.specs.declared.steps.Step.{Step}
-use Rattle.jm_book.specs.declared.steps.Step.TheVariants.{Enter, Play, Cut, Ack, Join}
-use Rattle.jm_book.specs.declared.participants.Participant.{Participant}
-use Rattle.jm_book.specs.Session.{Session, Entry, Packet, session_of, after, nothing, acknowledged, find_joined, tick_after, packet_tick, as_sent, sent_from, sent_of, pending_of}
+use Rattle.jm_book.specs.declared.steps.Step.TheVariants.{Enter, Play, Cut, Ack, Join, Leave, Hear, Feedback, Say}
+use Rattle.jm_book.specs.Stream.{Stream, Entry, Packet, stream_of, stream_after, no_stream, next_packet, tick_after, as_sent, sent_from, sent_of, pending_of}
 use Rattle.jm_book.specs.Plays.{is_play, play_count, given_tick, greatest_tick, play_at, plays_after, plays_of, played_by, entries_of, sent_pair, entry_pair}
 
 max_assoc : (a b c : ℕ) → max a (max b c) ≡ max (max a b) c
@@ -22,22 +21,18 @@ greatest_tick_push (first ∷ steps) step =
     rw (greatest_tick_push steps step) (max_assoc (given_tick first) (greatest_tick steps) (given_tick step))
 
 -- a session counts the plays of these steps, and has their greatest tick
-pub record Counts (before : List Step) (s : Session) : Type 0 where
+pub record Counts (before : List Step) (s : Stream) : Type 0 where
   pub plays : s.plays ≡ play_count before
   pub tick : s.tick ≡ greatest_tick before
 
-counts_quiet : (before : List Step) (step : Step) (s : Session) → is_play step ≡ false → given_tick step ≡ 0 → Counts before s → Counts (before ++ step ∷ []) s
+counts_quiet : (before : List Step) (step : Step) (s : Stream) → is_play step ≡ false → given_tick step ≡ 0 → Counts before s → Counts (before ++ step ∷ []) s
 counts_quiet before step s silent early h = record {
   plays = h.plays ∙ sym (sum_by_push (λ (x : Step). if is_play x then 1 else 0) before step ∙ rw silent (omega arith));
   tick = h.tick ∙ sym (greatest_tick_push before step ∙ rw early (max-zero (greatest_tick before)));
 }
 
-counts_acknowledged : (before : List Step) (s : Session) (ssrc seq : ℕ) (found : Option Participant) → Counts before s → Counts before (acknowledged s ssrc seq found)
-counts_acknowledged before s ssrc seq None h = h
-counts_acknowledged before s ssrc seq (Some one) h = record { plays = h.plays; tick = h.tick }
-
-pub counts_after : (before : List Step) (step : Step) (s : Session) → Counts before s → Counts (before ++ step ∷ []) (after s step)
-counts_after before Enter s h = counts_quiet before Enter (after s Enter) refl refl (record { plays = h.plays; tick = h.tick })
+pub counts_after : (before : List Step) (step : Step) (s : Stream) → Counts before s → Counts (before ++ step ∷ []) (stream_after s step)
+counts_after before Enter s h = counts_quiet before Enter s refl refl h
 counts_after before (Play player command tick) s h = record {
   plays = rw h.plays (sym (sum_by_push (λ (x : Step). if is_play x then 1 else 0) before (Play player command tick)));
   tick = rw h.tick (sym (greatest_tick_push before (Play player command tick)));
@@ -46,59 +41,66 @@ counts_after before (Cut tick) s h = record {
   plays = h.plays ∙ sym (sum_by_push (λ (x : Step). if is_play x then 1 else 0) before (Cut tick) ∙ omega arith);
   tick = rw h.tick (sym (greatest_tick_push before (Cut tick)));
 }
-counts_after before (Ack ssrc seq) s h =
-    counts_quiet before (Ack ssrc seq) (after s (Ack ssrc seq)) refl refl (counts_acknowledged before s ssrc seq (find_joined ssrc s.joined) h)
-counts_after before (Join ssrc) s h = counts_quiet before (Join ssrc) (after s (Join ssrc)) refl refl (record { plays = h.plays; tick = h.tick })
-
-entries_acknowledged : (s : Session) (ssrc seq : ℕ) (found : Option Participant) → entries_of (acknowledged s ssrc seq found) ≡ entries_of s
-entries_acknowledged s ssrc seq None = refl
-entries_acknowledged s ssrc seq (Some one) = refl
+counts_after before (Ack ssrc seq) s h = counts_quiet before (Ack ssrc seq) s refl refl h
+counts_after before (Join ssrc) s h = counts_quiet before (Join ssrc) s refl refl h
+counts_after before (Leave ssrc) s h = counts_quiet before (Leave ssrc) s refl refl h
+counts_after before (Hear ssrc seq) s h = counts_quiet before (Hear ssrc seq) s refl refl h
+counts_after before Feedback s h = counts_quiet before Feedback s refl refl h
+counts_after before (Say port from message now) s h = counts_quiet before (Say port from message now) s refl refl h
 
 -- one more step brings its play and takes none away
-pub entries_after : (before : List Step) (step : Step) (s : Session) → Counts before s → entries_of (after s step) ≡ entries_of s ++ play_at before step
+pub entries_after : (before : List Step) (step : Step) (s : Stream) → Counts before s → entries_of (stream_after s step) ≡ entries_of s ++ play_at before step
 entries_after before Enter s h = sym (append-nil (entries_of s))
 entries_after before (Play player command tick) s h =
     rw (greatest_tick_push before (Play player command tick), ← h.tick, ← h.plays)
     (sym (append_assoc (flat_map (λ (packet : Packet). packet.entries) s.packets) s.pending (record { player = player; serial = s.plays; tick = tick_after s tick; command = command } ∷ [])))
 entries_after before (Cut tick) s h =
-    let cut : Packet = record { tick = packet_tick s.pending (tick_after s tick); entries = s.pending } in
+    let cut : Packet = (next_packet s tick).packet in
     ap (λ (entries : List Entry). entries ++ []) (flat_map-append (λ (packet : Packet). packet.entries) s.packets (cut ∷ [])
     ∙ ap (λ (entries : List Entry). flat_map (λ (packet : Packet). packet.entries) s.packets ++ entries) (append-nil s.pending))
-entries_after before (Ack ssrc seq) s h = entries_acknowledged s ssrc seq (find_joined ssrc s.joined) ∙ sym (append-nil (entries_of s))
+entries_after before (Ack ssrc seq) s h = sym (append-nil (entries_of s))
 entries_after before (Join ssrc) s h = sym (append-nil (entries_of s))
+entries_after before (Leave ssrc) s h = sym (append-nil (entries_of s))
+entries_after before (Hear ssrc seq) s h = sym (append-nil (entries_of s))
+entries_after before Feedback s h = sym (append-nil (entries_of s))
+entries_after before (Say port from message now) s h = sym (append-nil (entries_of s))
 
-entries_along : (before steps : List Step) (s : Session) → Counts before s → entries_of (fold after s steps) ≡ entries_of s ++ plays_after before steps
+entries_along : (before steps : List Step) (s : Stream) → Counts before s → entries_of (fold stream_after s steps) ≡ entries_of s ++ plays_after before steps
 entries_along before [] s h = sym (append-nil (entries_of s))
 entries_along before (step ∷ steps) s h =
-    entries_along (before ++ step ∷ []) steps (after s step) (counts_after before step s h)
+    entries_along (before ++ step ∷ []) steps (stream_after s step) (counts_after before step s h)
     ∙ rw (entries_after before step s h) (append_assoc (entries_of s) (play_at before step) (plays_after (before ++ step ∷ []) steps))
 
 -- the entries are the plays
-pub entries_are_plays : (steps : List Step) → entries_of (session_of steps) ≡ plays_of steps
-entries_are_plays steps = entries_along [] steps nothing (record { plays = refl; tick = refl })
+pub entries_are_plays : (steps : List Step) → entries_of (stream_of steps) ≡ plays_of steps
+entries_are_plays steps = entries_along [] steps no_stream (record { plays = refl; tick = refl })
 
-counts_along : (before steps : List Step) (s : Session) → Counts before s → Counts (before ++ steps) (fold after s steps)
+counts_along : (before steps : List Step) (s : Stream) → Counts before s → Counts (before ++ steps) (fold stream_after s steps)
 counts_along before [] s h = rw (append-nil before) h
 counts_along before (step ∷ steps) s h =
-    rw (append_assoc before (step ∷ []) steps) at (counts_along (before ++ step ∷ []) steps (after s step) (counts_after before step s h))
+    rw (append_assoc before (step ∷ []) steps) at (counts_along (before ++ step ∷ []) steps (stream_after s step) (counts_after before step s h))
 
-pub counts_plays : (steps : List Step) → Counts steps (session_of steps)
-counts_plays steps = counts_along [] steps nothing (record { plays = refl; tick = refl })
+pub counts_plays : (steps : List Step) → Counts steps (stream_of steps)
+counts_plays steps = counts_along [] steps no_stream (record { plays = refl; tick = refl })
 
 -- serials count up from 0
-serials_along : (before steps : List Step) (from : ℕ) → from ≡ play_count before → map (λ (one : Entry). one.serial) (plays_after before steps) ≡ range_with_len from (play_count steps)
-serials_along before [] from h = refl
-serials_along before (Play player command tick ∷ steps) from h =
-    let later = serials_along (before ++ Play player command tick ∷ []) steps (from + 1) (rw h (sym (sum_by_push (λ (x : Step). if is_play x then 1 else 0) before (Play player command tick)))) in
+serials_along : (before steps : List Step) (first : ℕ) → first ≡ play_count before → map (λ (one : Entry). one.serial) (plays_after before steps) ≡ range_with_len first (play_count steps)
+serials_along before [] first h = refl
+serials_along before (Play player command tick ∷ steps) first h =
+    let later = serials_along (before ++ Play player command tick ∷ []) steps (first + 1) (rw h (sym (sum_by_push (λ (x : Step). if is_play x then 1 else 0) before (Play player command tick)))) in
     let more : play_count (Play player command tick ∷ steps) ≡ suc (play_count steps) =
     sum_by-append (λ (x : Step). if is_play x then 1 else 0) (Play player command tick ∷ []) steps ∙ add_comm 1 (play_count steps) ∙ add-one (play_count steps) in
     ap (λ (serials : List ℕ). play_count before ∷ serials) later ∙ rw (more, h) refl
-serials_along before (Enter ∷ steps) from h = serials_along (before ++ Enter ∷ []) steps from (rw h (sym (sum_by_push (λ (x : Step). if is_play x then 1 else 0) before Enter ∙ omega arith)))
-serials_along before (Cut tick ∷ steps) from h = serials_along (before ++ Cut tick ∷ []) steps from (rw h (sym (sum_by_push (λ (x : Step). if is_play x then 1 else 0) before (Cut tick) ∙ omega arith)))
-serials_along before (Ack ssrc seq ∷ steps) from h = serials_along (before ++ Ack ssrc seq ∷ []) steps from (rw h (sym (sum_by_push (λ (x : Step). if is_play x then 1 else 0) before (Ack ssrc seq) ∙ omega arith)))
-serials_along before (Join ssrc ∷ steps) from h = serials_along (before ++ Join ssrc ∷ []) steps from (rw h (sym (sum_by_push (λ (x : Step). if is_play x then 1 else 0) before (Join ssrc) ∙ omega arith)))
+serials_along before (Enter ∷ steps) first h = serials_along (before ++ Enter ∷ []) steps first (rw h (sym (sum_by_push (λ (x : Step). if is_play x then 1 else 0) before Enter ∙ omega arith)))
+serials_along before (Cut tick ∷ steps) first h = serials_along (before ++ Cut tick ∷ []) steps first (rw h (sym (sum_by_push (λ (x : Step). if is_play x then 1 else 0) before (Cut tick) ∙ omega arith)))
+serials_along before (Ack ssrc seq ∷ steps) first h = serials_along (before ++ Ack ssrc seq ∷ []) steps first (rw h (sym (sum_by_push (λ (x : Step). if is_play x then 1 else 0) before (Ack ssrc seq) ∙ omega arith)))
+serials_along before (Join ssrc ∷ steps) first h = serials_along (before ++ Join ssrc ∷ []) steps first (rw h (sym (sum_by_push (λ (x : Step). if is_play x then 1 else 0) before (Join ssrc) ∙ omega arith)))
+serials_along before (Leave ssrc ∷ steps) first h = serials_along (before ++ Leave ssrc ∷ []) steps first (rw h (sym (sum_by_push (λ (x : Step). if is_play x then 1 else 0) before (Leave ssrc) ∙ omega arith)))
+serials_along before (Hear ssrc seq ∷ steps) first h = serials_along (before ++ Hear ssrc seq ∷ []) steps first (rw h (sym (sum_by_push (λ (x : Step). if is_play x then 1 else 0) before (Hear ssrc seq) ∙ omega arith)))
+serials_along before (Feedback ∷ steps) first h = serials_along (before ++ Feedback ∷ []) steps first (rw h (sym (sum_by_push (λ (x : Step). if is_play x then 1 else 0) before Feedback ∙ omega arith)))
+serials_along before (Say port from message now ∷ steps) first h = serials_along (before ++ Say port from message now ∷ []) steps first (rw h (sym (sum_by_push (λ (x : Step). if is_play x then 1 else 0) before (Say port from message now) ∙ omega arith)))
 
-pub serials_count_up : (steps : List Step) → map (λ (one : Entry). one.serial) (entries_of (session_of steps)) ≡ range_with_len 0 (play_count steps)
+pub serials_count_up : (steps : List Step) → map (λ (one : Entry). one.serial) (entries_of (stream_of steps)) ≡ range_with_len 0 (play_count steps)
 serials_count_up steps = rw (entries_are_plays steps) (serials_along [] steps 0 refl)
 
 -- a player's plays are its commands
@@ -114,8 +116,12 @@ played_along player before (Enter ∷ steps) = played_along player (before ++ En
 played_along player before (Cut tick ∷ steps) = played_along player (before ++ Cut tick ∷ []) steps
 played_along player before (Ack ssrc seq ∷ steps) = played_along player (before ++ Ack ssrc seq ∷ []) steps
 played_along player before (Join ssrc ∷ steps) = played_along player (before ++ Join ssrc ∷ []) steps
+played_along player before (Leave ssrc ∷ steps) = played_along player (before ++ Leave ssrc ∷ []) steps
+played_along player before (Hear ssrc seq ∷ steps) = played_along player (before ++ Hear ssrc seq ∷ []) steps
+played_along player before (Feedback ∷ steps) = played_along player (before ++ Feedback ∷ []) steps
+played_along player before (Say port from message now ∷ steps) = played_along player (before ++ Say port from message now ∷ []) steps
 
-pub players_in_order : (player : ℕ) (steps : List Step) → map (λ (one : Entry). one.command) (filter (λ one. one.player == player) (entries_of (session_of steps))) ≡ played_by player steps
+pub players_in_order : (player : ℕ) (steps : List Step) → map (λ (one : Entry). one.command) (filter (λ one. one.player == player) (entries_of (stream_of steps))) ≡ played_by player steps
 players_in_order player steps = rw (entries_are_plays steps) (played_along player [] steps)
 
 -- the plain list has the ticks and commands of the entries
@@ -128,6 +134,6 @@ sent_from_is number [] = refl
 sent_from_is number (one ∷ others) =
     rw (map-append sent_pair (as_sent number one.entries) (sent_from (number + 1) others), map-append entry_pair one.entries (flat_map (λ (packet : Packet). packet.entries) others), as_sent_is number one.entries, sent_from_is (number + 1) others) refl
 
-pub sent_are_entries : (s : Session) → map sent_pair (sent_of s ++ pending_of s) ≡ map entry_pair (entries_of s)
+pub sent_are_entries : (s : Stream) → map sent_pair (sent_of s ++ pending_of s) ≡ map entry_pair (entries_of s)
 sent_are_entries s =
     rw (map-append sent_pair (sent_of s) (pending_of s), map-append entry_pair (flat_map (λ (packet : Packet). packet.entries) s.packets) s.pending, as_sent_is (length s.packets) s.pending, sent_from_is 0 s.packets) refl

@@ -5,7 +5,7 @@ use Rattle.jm_cmds.specs.declared.commands.Command.{Command}
 use Rattle.jm_cmds.specs.declared.history.Sent.{Sent}
 use Rattle.jm_book.specs.declared.steps.Step.{Step}
 use Rattle.jm_book.specs.declared.steps.Step.TheVariants.{Play, Cut}
-use Rattle.jm_book.specs.Session.{Session, Entry}
+use Rattle.jm_book.specs.Stream.{Stream, Entry}
 
 abbrev pub is_play : Step → Bool
 is_play (Play player command tick) = true
@@ -48,8 +48,8 @@ played_by player (Play other command tick ∷ steps) =
 played_by player (_ ∷ steps) = played_by player steps
 
 -- the entries of all packets, in order, and then those pending
-abbrev pub entries_of : Session → List Entry
-entries_of session = flat_map (λ packet. packet.entries) session.packets ++ session.pending
+abbrev pub entries_of : Stream → List Entry
+entries_of stream = flat_map (λ packet. packet.entries) stream.packets ++ stream.pending
 
 -- the tick and the command of an entry, and of a place of the plain list
 abbrev pub entry_pair : Entry → ℕ × Command

@@ -1,34 +1,74 @@
 -- What it says of a session that a step is taken.
-use Rattle.std.proofs.Common.{ℕ, ◌+◌, ◌<◌, ◌≡◌, refl, Bool, true, false, List, Option, Some, None, length, arith}
-use Rattle.std.specs.Prelude.{not, nat_le, ◌==◌, ◌||◌, is_some, if◌then◌else◌}
+use Rattle.std.proofs.Common.{ℕ, ◌+◌, ◌-◌, ◌<◌, ◌≡◌, refl, sym, Bool, true, false, List, Option, Some, None, length, arith, inl, inr}
+use Rattle.std.specs.Prelude.{not, nat_le, nat_lt, ◌==◌, ◌||◌, if◌then◌else◌}
+use Rattle.std.proofs.lemmas.Bool.{cases_Bool}
 use Rattle.std.proofs.lemmas.Bool.Decides.{nat_tests}
 use Rattle.jm_cmds.specs.declared.commands.Command.{Command}
 use Rattle.jm_journal.specs.declared.fits.Fit.{Fit}
 use Rattle.jm_journal.specs.declared.fits.Fit.TheVariants as fit
 use Rattle.jm_book.specs.declared.steps.Config.{Config}
 use Rattle.jm_book.specs.declared.steps.Step.{Step}
-use Rattle.jm_book.specs.declared.steps.Step.TheVariants.{Enter, Play, Cut, Ack, Join}
+use Rattle.jm_book.specs.declared.steps.Step.TheVariants.{Enter, Play, Cut, Ack, Join, Leave, Hear, Feedback, Say}
 use Rattle.jm_book.specs.declared.participants.Participant.{Participant}
-use Rattle.jm_book.specs.declared.answers.Entered.TheVariants as entered
+use Rattle.jm_book.specs.declared.marks.Report.{Report}
+use Rattle.jm_book.specs.declared.marks.Report.TheVariants as report
 use Rattle.jm_book.specs.declared.answers.PlayFault.{PlayFault}
-use Rattle.jm_book.specs.declared.answers.Cutted.{Cutted}
-use Rattle.jm_book.specs.declared.answers.Cutted.TheVariants as cutted
-use Rattle.jm_book.specs.declared.answers.Acked.TheVariants as acked
 use Rattle.jm_book.specs.declared.answers.Joined.TheVariants as joined
-use Rattle.jm_book.specs.Session.{Session, session_of, find_joined, distance, free_slot, last_sent, slowest}
-use Rattle.jm_book.specs.Answers.{is_full, is_known, needs_cut, fit_after, fit_refusal, or_else, cut_refusal, play_refusal, played_as, behind_or_sent, last_packet, ack_of, most_joined, is_entered, is_accepted, is_packet, is_moved, is_joined}
-use Rattle.jm_book.specs.Legal.{IsTaken}
+use Rattle.jm_book.specs.Participants.{find_joined, is_member, most_joined, free_slot, distance, reaches, report_of, last_packet}
+use Rattle.jm_book.specs.Session.{Session, session_of}
+use Rattle.jm_book.specs.Answers.{is_known, needs_cut, fit_after, fit_refusal, or_else, cut_refusal, refusal_in, played_as, list_with, delta_with, ack_of, acked_as, is_accepted, is_moved, is_joined, is_left, is_noted, members_leave, members_hear, play_in}
+use Rattle.jm_book.specs.BookAnswers.{has_room}
+use Rattle.jm_book.specs.Legal.{takes, IsTakenIn, IsTaken}
+
+-- ---- a step is taken only where there is room
+
+no_ack : (events packets seq : ℕ) (found : Option Participant) → is_moved (ack_of false events packets seq found) ≡ true → ⊥
+no_ack events packets seq None h = cc
+no_ack events packets seq (Some one) h = cc
+
+no_room : (events : ℕ) (s : Session) (step : Step) → takes false events s step ≡ true → ⊥
+no_room events s Enter h = cc
+no_room events s (Play player command tick) h = elim (cases_Bool (is_known s.members player)) [
+  | inl t ↦ let none : false ≡ true = rw t at h in cc
+  | inr f ↦ let none : false ≡ true = rw f at h in cc
+]
+no_room events s (Cut tick) h = cc
+no_room events s (Ack ssrc seq) h = no_ack events (length s.stream.packets) seq (find_joined ssrc s.members.joined) h
+no_room events s (Join ssrc) h = elim (cases_Bool (is_member ssrc s.members.joined)) [
+  | inl t ↦ let none : false ≡ true = rw t at h in cc
+  | inr f ↦ let none : false ≡ true = rw f at h in cc
+]
+no_room events s (Leave ssrc) h = elim (cases_Bool (is_member ssrc s.members.joined)) [
+  | inl t ↦ let none : false ≡ true = rw t at h in cc
+  | inr f ↦ let none : false ≡ true = rw f at h in cc
+]
+no_room events s (Hear ssrc seq) h = elim (cases_Bool (is_member ssrc s.members.joined)) [
+  | inl t ↦ let none : false ≡ true = rw t at h in cc
+  | inr f ↦ let none : false ≡ true = rw f at h in cc
+]
+no_room events s Feedback h = cc
+no_room events s (Say port from message now) h = cc
+
+pub taken_with_room : (room : Bool) (events : ℕ) (s : Session) (step : Step) → takes room events s step ≡ true → (room ≡ true) × IsTakenIn events s step
+taken_with_room true events s step h = (refl, h)
+taken_with_room false events s step h = absurd (no_room events s step h)
+
+-- a step is taken only where the tape isn't full
+pub taken_room : (config : Config) (steps : List Step) (step : Step) → IsTaken config steps step → has_room config steps ≡ true
+taken_room config steps step h = (taken_with_room (has_room config steps) config.events (session_of config steps) step h).0
+
+pub taken_in : (config : Config) (steps : List Step) (step : Step) → IsTaken config steps step → IsTakenIn config.events (session_of config steps) step
+taken_in config steps step h = (taken_with_room (has_room config steps) config.events (session_of config steps) step h).1
+
+pub taken_fits : (config : Config) (steps : List Step) (step : Step) → IsTaken config steps step → length steps < config.events
+taken_fits config steps step h = grind (arith, nat_tests, taken_room config steps step h)
 
 -- ---- the refusals did not come
 
-enter_came : (full many : Bool) (events most player : ℕ) → is_entered (if full then entered.RecordFull events else if many then entered.PlayersFull most else entered.Player player) ≡ true → full ≡ false
-enter_came true many events most player h = absurd cc
-enter_came false many events most player h = refl
-
-pub play_came : (known full : Bool) (unknown record_full : PlayFault) (others : Option PlayFault) → (if not known then Some unknown else if full then Some record_full else others) ≡ None → (full ≡ false) × (others ≡ None)
-play_came false full unknown record_full others h = absurd cc
-play_came true true unknown record_full others h = absurd cc
-play_came true false unknown record_full others h = (refl, h)
+pub play_came : (known room : Bool) (unknown record_full : PlayFault) (others : Option PlayFault) → (if not known then Some unknown else if not room then Some record_full else others) ≡ None → (room ≡ true) × (others ≡ None)
+play_came false room unknown record_full others h = absurd cc
+play_came true false unknown record_full others h = absurd cc
+play_came true true unknown record_full others h = (refl, h)
 
 neither_came : (one other : Option PlayFault) → or_else one other ≡ None → (one ≡ None) × (other ≡ None)
 neither_came None other h = (refl, h)
@@ -44,44 +84,33 @@ cut_needless : (needed : Bool) (why : PlayFault) → (if needed then Some why el
 cut_needless true why h = absurd cc
 cut_needless false why h = refl
 
--- the tape isn't full, the command fits, and no cut is needed
-pub record Unrefused (config : Config) (steps : List Step) (command : Command) (tick : ℕ) : Type 0 where
-  pub room : is_full config steps ≡ false
-  pub fits : fit_after (session_of steps) command ≡ fit.Yes
-  pub cut : needs_cut (session_of steps) command tick ≡ false
+-- there is room, the command fits, and no cut is needed
+pub record Unrefused (room : Bool) (s : Session) (command : Command) (tick : ℕ) : Type 0 where
+  pub has_room : room ≡ true
+  pub fits : fit_after s command ≡ fit.Yes
+  pub cut : needs_cut (length s.stream.pending) (list_with s.stream command tick) (delta_with s.stream tick) ≡ false
 
-pub unrefused : (config : Config) (steps : List Step) (player tick : ℕ) (command : Command) → play_refusal config steps player command tick ≡ None → Unrefused config steps command tick
-unrefused config steps player tick command none =
-    let s = session_of steps in
+pub unrefused : (room : Bool) (events : ℕ) (s : Session) (player : ℕ) (command : Command) (tick : ℕ) → refusal_in room events s player command tick ≡ None → Unrefused room s command tick
+unrefused room events s player command tick none =
     let fits = fit_refusal (fit_after s command) in
-    let cuts = cut_refusal s command tick in
-    let came = play_came (is_known s player) (is_full config steps) _ _ (or_else fits cuts) none in
+    let needed = needs_cut (length s.stream.pending) (list_with s.stream command tick) (delta_with s.stream tick) in
+    let cuts = cut_refusal (length s.stream.pending) (list_with s.stream command tick) (delta_with s.stream tick) in
+    let came = play_came (is_known s.members player) room _ _ (or_else fits cuts) none in
     let both = neither_came fits cuts came.1 in
     record {
-      room = came.0;
+      has_room = came.0;
       fits = fit_came (fit_after s command) both.0;
-      cut = cut_needless (needs_cut s command tick) _ both.1;
+      cut = cut_needless needed _ both.1;
     }
 
-accepted_unrefused : (steps : List Step) (command : Command) (refusal : Option PlayFault) → is_accepted (played_as steps command refusal) ≡ true → refusal ≡ None
-accepted_unrefused steps command None h = refl
-accepted_unrefused steps command (Some why) h = absurd cc
+pub accepted_unrefused : (serial : ℕ) (command : Command) (refusal : Option PlayFault) → is_accepted (played_as serial command refusal) ≡ true → refusal ≡ None
+accepted_unrefused serial command None h = refl
+accepted_unrefused serial command (Some why) h = absurd cc
 
-cut_came : (full : Bool) (events : ℕ) (other : Cutted) → is_packet (if full then cutted.RecordFull events else other) ≡ true → full ≡ false
-cut_came true events other h = absurd cc
-cut_came false events other h = refl
-
-ack_came : (full old ahead : Bool) (events mark to : ℕ) (last : Option ℕ) → is_moved (if full then acked.RecordFull events else if old then acked.Old mark else if ahead then acked.NotSent last else acked.Moved to) ≡ true → (full ≡ false) × (old ≡ false) × (ahead ≡ false)
-ack_came true old ahead events mark to last h = absurd cc
-ack_came false true ahead events mark to last h = absurd cc
-ack_came false false true events mark to last h = absurd cc
-ack_came false false false events mark to last h = (refl, refl, refl)
-
-join_came : (known full many : Bool) (events most mark player : ℕ) → is_joined (if known then joined.Already else if full then joined.RecordFull events else if many then joined.SessionFull most else joined.At mark player) ≡ true → (known ≡ false) × (full ≡ false) × (many ≡ false)
-join_came true full many events most mark player h = absurd cc
-join_came false true many events most mark player h = absurd cc
-join_came false false true events most mark player h = absurd cc
-join_came false false false events most mark player h = (refl, refl, refl)
+join_came : (known many : Bool) (most mark player : ℕ) → is_joined (if known then joined.Already else if many then joined.SessionFull most else joined.At mark player) ≡ true → (known ≡ false) × (many ≡ false)
+join_came true many most mark player h = absurd cc
+join_came false true most mark player h = absurd cc
+join_came false false most mark player h = (refl, refl)
 
 -- ---- what each taken step says
 
@@ -91,59 +120,79 @@ neither true b h = absurd cc
 neither false true h = absurd cc
 neither false false h = (refl, refl)
 
--- the report is of a joined participant, and the mark moves on, less than half a round, to a packet that was sent
-pub record Reports (s : Session) (ssrc seq : ℕ) : Type 0 where
-  pub one : Participant
-  pub found : find_joined ssrc s.joined ≡ Some one
+-- the report is of a packet that was sent, past the mark and less than half a round from it
+pub record IsNews (packets : ℕ) (one : Participant) (seq : ℕ) : Type 0 where
   pub past : 0 < distance one.mark seq
   pub near : distance one.mark seq < 32768
-  pub sent : one.mark + distance one.mark seq < length s.packets
+  pub sent : reaches one seq < packets
 
-ack_found : (config : Config) (steps : List Step) (ssrc seq : ℕ) (found : Option Participant) → find_joined ssrc (session_of steps).joined ≡ found → is_moved (ack_of config steps seq found) ≡ true → (is_full config steps ≡ false) × Reports (session_of steps) ssrc seq
-ack_found config steps ssrc seq None is h = absurd cc
-ack_found config steps ssrc seq (Some one) is h =
-    let to = one.mark + distance one.mark seq in
-    let came = ack_came (is_full config steps) (distance one.mark seq == 0 || nat_le 32768 (distance one.mark seq)) (nat_le (length (session_of steps).packets) to) config.events one.mark to (last_packet (session_of steps)) h in
-    let apart = neither (distance one.mark seq == 0) (nat_le 32768 (distance one.mark seq)) came.1 in (
-      came.0,
+report_came : (old ahead : Bool) (mark to moved : ℕ) (last : Option ℕ) → (if old then report.Old mark else if ahead then report.NotSent last else report.Moved to) ≡ report.Moved moved → (old ≡ false) × (ahead ≡ false) × (moved ≡ to)
+report_came true ahead mark to moved last h = absurd cc
+report_came false true mark to moved last h = absurd cc
+report_came false false mark to moved last h = (refl, refl, cc)
+
+pub report_moves : (packets : ℕ) (one : Participant) (seq mark : ℕ) → report_of packets one seq ≡ report.Moved mark → IsNews packets one seq × (mark ≡ reaches one seq)
+report_moves packets one seq mark h =
+    let to = reaches one seq in
+    let old = distance one.mark seq == 0 || nat_le 32768 (distance one.mark seq) in
+    let came = report_came old (nat_le packets to) one.mark to mark (last_packet packets) h in
+    let apart = neither (distance one.mark seq == 0) (nat_le 32768 (distance one.mark seq)) came.0 in (
       record {
-        one = one;
-        found = is;
         past = grind (arith, nat_tests, apart.0);
         near = grind (arith, nat_tests, apart.1);
-        sent = grind (arith, nat_tests, came.2);
+        sent = grind (arith, nat_tests, came.1);
       },
+      came.2,
     )
 
-pub ack_taken : (config : Config) (steps : List Step) (ssrc seq : ℕ) → IsTaken config steps (Ack ssrc seq) → (is_full config steps ≡ false) × Reports (session_of steps) ssrc seq
-ack_taken config steps ssrc seq h = ack_found config steps ssrc seq (find_joined ssrc (session_of steps).joined) refl h
+-- the report is of a joined participant
+pub record Reports (s : Session) (ssrc seq : ℕ) : Type 0 where
+  pub one : Participant
+  pub found : find_joined ssrc s.members.joined ≡ Some one
+  pub moves : report_of (length s.stream.packets) one seq ≡ report.Moved (reaches one seq)
+  pub news : IsNews (length s.stream.packets) one seq
+
+acked_moves : (packets : ℕ) (one : Participant) (seq : ℕ) (answer : Report) → report_of packets one seq ≡ answer → is_moved (acked_as answer) ≡ true → IsNews packets one seq × (report_of packets one seq ≡ report.Moved (reaches one seq))
+acked_moves packets one seq (report.Moved mark) is h =
+    let moves = report_moves packets one seq mark is in
+    let to : report.Moved mark ≡ report.Moved (reaches one seq) = rw moves.1 refl in
+    (moves.0, rw is to)
+acked_moves packets one seq (report.Old mark) is h = absurd cc
+acked_moves packets one seq (report.NotSent last) is h = absurd cc
+
+ack_found : (events : ℕ) (s : Session) (ssrc seq : ℕ) (found : Option Participant) → find_joined ssrc s.members.joined ≡ found → is_moved (ack_of true events (length s.stream.packets) seq found) ≡ true → Reports s ssrc seq
+ack_found events s ssrc seq None is h = absurd cc
+ack_found events s ssrc seq (Some one) is h =
+    let moves = acked_moves (length s.stream.packets) one seq (report_of (length s.stream.packets) one seq) refl h in
+    record { one = one; found = is; moves = moves.1; news = moves.0 }
+
+pub ack_taken : (events : ℕ) (s : Session) (ssrc seq : ℕ) → IsTakenIn events s (Ack ssrc seq) → Reports s ssrc seq
+ack_taken events s ssrc seq h = ack_found events s ssrc seq (find_joined ssrc s.members.joined) refl h
 
 -- the participant is not joined, and few enough are
-pub record Joins (s : Session) (ssrc : ℕ) : Type 0 where
-  pub absent : is_some (find_joined ssrc s.joined) ≡ false
-  pub few : length s.joined < most_joined
+pub record Joins (joined : List Participant) (ssrc : ℕ) : Type 0 where
+  pub absent : is_member ssrc joined ≡ false
+  pub few : length joined < most_joined
 
-pub join_taken : (config : Config) (steps : List Step) (ssrc : ℕ) → IsTaken config steps (Join ssrc) → (is_full config steps ≡ false) × Joins (session_of steps) ssrc
-join_taken config steps ssrc h =
-    let s = session_of steps in
-    let came = join_came (is_some (find_joined ssrc s.joined)) (is_full config steps) (nat_le most_joined (length s.joined)) config.events most_joined (last_sent s) (64 + free_slot s.joined) h in
-    (came.1, record { absent = came.0; few = grind (arith, nat_tests, came.2) })
+pub join_taken : (events : ℕ) (s : Session) (ssrc : ℕ) → IsTakenIn events s (Join ssrc) → Joins s.members.joined ssrc
+join_taken events s ssrc h =
+    let here = s.members.joined in
+    let came = join_came (is_member ssrc here) (nat_le most_joined (length here)) most_joined (length s.stream.packets - 1) (64 + free_slot here) h in
+    record { absent = came.0; few = grind (arith, nat_tests, came.1) }
+
+pub leave_taken : (events : ℕ) (s : Session) (ssrc : ℕ) → IsTakenIn events s (Leave ssrc) → is_member ssrc s.members.joined ≡ true
+leave_taken events s ssrc h = elim (cases_Bool (is_member ssrc s.members.joined)) [
+  | inl t ↦ t
+  | inr f ↦ let none : false ≡ true = rw f at h in absurd cc
+]
+
+pub hear_taken : (events : ℕ) (s : Session) (ssrc seq : ℕ) → IsTakenIn events s (Hear ssrc seq) → is_member ssrc s.members.joined ≡ true
+hear_taken events s ssrc seq h = elim (cases_Bool (is_member ssrc s.members.joined)) [
+  | inl t ↦ t
+  | inr f ↦ let none : false ≡ true = rw f at h in absurd cc
+]
 
 -- a play is taken only where its command fits
-pub play_fits : (config : Config) (steps : List Step) (player tick : ℕ) (command : Command) → IsTaken config steps (Play player command tick) → fit_after (session_of steps) command ≡ fit.Yes
-play_fits config steps player tick command h =
-    (unrefused config steps player tick command (accepted_unrefused steps command (play_refusal config steps player command tick) h)).fits
-
--- a step is taken only where the tape isn't full
-pub taken_room : (config : Config) (steps : List Step) (step : Step) → IsTaken config steps step → is_full config steps ≡ false
-taken_room config steps Enter h =
-    enter_came (is_full config steps) (nat_le 64 (session_of steps).entered) config.events 64 (session_of steps).entered h
-taken_room config steps (Play player command tick) h =
-    (unrefused config steps player tick command (accepted_unrefused steps command (play_refusal config steps player command tick) h)).room
-taken_room config steps (Cut tick) h =
-    cut_came (is_full config steps) config.events (behind_or_sent (session_of steps) (slowest (session_of steps).joined)) h
-taken_room config steps (Ack ssrc seq) h = (ack_taken config steps ssrc seq h).0
-taken_room config steps (Join ssrc) h = (join_taken config steps ssrc h).0
-
-pub taken_fits : (config : Config) (steps : List Step) (step : Step) → IsTaken config steps step → length steps < config.events
-taken_fits config steps step h = grind (arith, nat_tests, taken_room config steps step h)
+pub play_taken : (events : ℕ) (s : Session) (player : ℕ) (command : Command) (tick : ℕ) → IsTakenIn events s (Play player command tick) → Unrefused true s command tick
+play_taken events s player command tick h =
+    unrefused true events s player command tick (accepted_unrefused s.stream.plays command (refusal_in true events s player command tick) h)

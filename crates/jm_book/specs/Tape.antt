@@ -23,6 +23,10 @@ bare_step bare.Enter = step.Enter
 bare_step (bare.Cut tick) = step.Cut tick
 bare_step (bare.Ack ssrc seq) = step.Ack ssrc seq
 bare_step (bare.Join ssrc) = step.Join ssrc
+bare_step (bare.Leave ssrc) = step.Leave ssrc
+bare_step (bare.Hear ssrc seq) = step.Hear ssrc seq
+bare_step bare.Feedback = step.Feedback
+bare_step (bare.Say port from message now) = step.Say port from message now
 
 -- marks with the commands of the plays among them
 abbrev pub woven : List Mark → List Sent → List Step

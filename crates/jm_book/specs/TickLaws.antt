@@ -1,5 +1,5 @@
 -- Ticks never fall along the sent and pending commands, whatever the steps.
-use Rattle.std.proofs.Common.{ℕ, ◌≤◌, List, [], ◌∷◌, ◌++◌, Option, Some, None, length, fold, arith, append_assoc, append-nil}
+use Rattle.std.proofs.Common.{ℕ, ◌≤◌, List, [], ◌∷◌, ◌++◌, length, fold, arith, append_assoc, append-nil}
 use Rattle.std.specs.List.{AllByRecursion}
 use Rattle.std.proofs.Math.Nat.{le-max_left}
 use Rattle.jm_cmds.specs.declared.history.Sent.{Sent}
@@ -7,9 +7,8 @@ use Rattle.jm_cmds.specs.History.{InOrder}
 use Rattle.jm_cmds.specs.HistoryLaws.{AllByRecursion-weaker}
 use Rattle.jm_cmds.specs.Sent.{tick_of}
 use Rattle.jm_book.specs.declared.steps.Step.{Step}
-use Rattle.jm_book.specs.declared.steps.Step.TheVariants.{Enter, Play, Cut, Ack, Join}
-use Rattle.jm_book.specs.declared.participants.Participant.{Participant}
-use Rattle.jm_book.specs.Session.{Session, session_of, after, nothing, acknowledged, find_joined, tick_after, sent_of, pending_of}
+use Rattle.jm_book.specs.declared.steps.Step.TheVariants.{Enter, Play, Cut, Ack, Join, Leave, Hear, Feedback, Say}
+use Rattle.jm_book.specs.Stream.{Stream, stream_of, stream_after, no_stream, played, tick_after, sent_of, pending_of}
 use Rattle.jm_cmds.specs.HistoryLaws.{InOrder-append, AllByRecursion-append}
 use Rattle.jm_book.specs.StepLaws.{pending_push, sent_cut}
 
@@ -33,25 +32,25 @@ ticks_push tick commands one l h =
       reached = AllByRecursion-append (λ other. tick_of other ≤ one.tick) commands (one ∷ []) reached (last, tt);
     }
 
-ticks_acknowledged : (s : Session) (ssrc seq : ℕ) (found : Option Participant) → TicksRise s.tick (sent_of s ++ pending_of s) → TicksRise (acknowledged s ssrc seq found).tick (sent_of (acknowledged s ssrc seq found) ++ pending_of (acknowledged s ssrc seq found))
-ticks_acknowledged s ssrc seq None h = h
-ticks_acknowledged s ssrc seq (Some one) h = h
-
 -- one more step
-pub ticks_after : (s : Session) (step : Step) → TicksRise s.tick (sent_of s ++ pending_of s) → TicksRise (after s step).tick (sent_of (after s step) ++ pending_of (after s step))
+pub ticks_after : (s : Stream) (step : Step) → TicksRise s.tick (sent_of s ++ pending_of s) → TicksRise (stream_after s step).tick (sent_of (stream_after s step) ++ pending_of (stream_after s step))
 ticks_after s Enter h = h
 ticks_after s (Play player command tick) h =
     let one : Sent = record { packet = length s.packets; tick = tick_after s tick; command = command } in
-    rw (pending_push s player tick command, ← append_assoc (sent_of s) (pending_of s) (one ∷ []))
+    rw (pending_push s player command tick, ← append_assoc (sent_of s) (pending_of s) (one ∷ []))
     (ticks_push s.tick (sent_of s ++ pending_of s) one (le-max_left s.tick tick) h)
 ticks_after s (Cut tick) h =
     rw (sent_cut s tick, append-nil) (ticks_later s.tick (tick_after s tick) (sent_of s ++ pending_of s) (le-max_left s.tick tick) h)
-ticks_after s (Ack ssrc seq) h = ticks_acknowledged s ssrc seq (find_joined ssrc s.joined) h
+ticks_after s (Ack ssrc seq) h = h
 ticks_after s (Join ssrc) h = h
+ticks_after s (Leave ssrc) h = h
+ticks_after s (Hear ssrc seq) h = h
+ticks_after s Feedback h = h
+ticks_after s (Say port from message now) h = h
 
-ticks_along : (s : Session) (steps : List Step) → TicksRise s.tick (sent_of s ++ pending_of s) → TicksRise (fold after s steps).tick (sent_of (fold after s steps) ++ pending_of (fold after s steps))
+ticks_along : (s : Stream) (steps : List Step) → TicksRise s.tick (sent_of s ++ pending_of s) → TicksRise (fold stream_after s steps).tick (sent_of (fold stream_after s steps) ++ pending_of (fold stream_after s steps))
 ticks_along s [] h = h
-ticks_along s (step ∷ steps) h = ticks_along (after s step) steps (ticks_after s step h)
+ticks_along s (step ∷ steps) h = ticks_along (stream_after s step) steps (ticks_after s step h)
 
-pub ticks_in_order : (steps : List Step) → TicksRise (session_of steps).tick (sent_of (session_of steps) ++ pending_of (session_of steps))
-ticks_in_order steps = ticks_along nothing steps (record { in_order = tt; reached = tt })
+pub ticks_in_order : (steps : List Step) → TicksRise (stream_of steps).tick (sent_of (stream_of steps) ++ pending_of (stream_of steps))
+ticks_in_order steps = ticks_along no_stream steps (record { in_order = tt; reached = tt })

@@ -1,5 +1,7 @@
 //! What the calls of a session answer.
 
+use apple_msg::Message;
+use apple_session::Why;
 use jm_cmds::{Channel, Command};
 
 /// What [`crate::Book::enter`] answers.
@@ -97,4 +99,100 @@ pub enum Joined {
     RecordFull { events: u32 },
     /// As many participants are joined as may be.
     SessionFull { most: u8 },
+}
+
+/// What [`crate::Book::leave`] answers.
+#[derive(Clone, Copy, Debug, PartialEq, Eq)]
+pub enum Gone {
+    /// The participant is no longer joined, and no peer has its SSRC.
+    Left,
+    /// No participant of this SSRC is joined.
+    UnknownSsrc,
+    /// The tape has as many steps as the session was made for.
+    RecordFull { events: u32 },
+}
+
+/// What [`crate::Book::hear`] answers.
+#[derive(Clone, Copy, Debug, PartialEq, Eq)]
+pub enum Heard {
+    /// The number is kept until a later one comes or the participant leaves.
+    Noted,
+    /// No participant of this SSRC is joined.
+    UnknownSsrc,
+    /// The tape has as many steps as the session was made for.
+    RecordFull { events: u32 },
+}
+
+/// What [`crate::Book::feedback`] answers.
+#[derive(Clone, Copy, Debug, PartialEq, Eq)]
+pub enum Given {
+    /// The list is filled.
+    Given,
+    /// The tape has as many steps as the session was made for.
+    RecordFull { events: u32 },
+}
+
+/// What a message came to.
+#[derive(Clone, Copy, Debug, PartialEq, Eq)]
+pub enum Acted {
+    /// Nothing beyond the reply and the list of peers.
+    Plain,
+    /// Its sender is now a participant, with this mark and player number (64 and its slot).
+    Joined { mark: u64, player: u8 },
+    /// Its sender is no longer a participant.
+    Left,
+    /// Its sender's mark is now this packet.
+    Moved { mark: u64 },
+    /// A clock exchange came to its end: the peer's clock shows this much more than the host's, in units of
+    /// 100 microseconds, rounded down.
+    Clocked { offset: i128 },
+    /// Nothing at all.
+    Ignored(Why),
+    /// The number reported is the mark's, or at least 32,768 past it, which is before it.
+    Old { mark: u64 },
+    /// The number reported is past the last packet that was sent.
+    NotSent { last: Option<u64> },
+}
+
+/// What [`crate::Book::say`] answers.
+#[derive(Debug, PartialEq, Eq, Drop)]
+pub enum Said {
+    /// The tape has as many steps as the session was made for.
+    RecordFull { events: u32 },
+    /// The reply to the sender, where there is one, and what the message came to.
+    Done { reply: Option<Message>, act: Acted },
+}
+
+impl Acted {
+    ghost use Rattle.std.specs.Prelude.{◌≡◌};
+    ghost use Rattle.jm_book.specs.Answers.{is_acted};
+
+    /// Whether it is a step: what was ignored, old or not sent is none.
+    pub(crate) fn is_taken(&self) -> bool
+        ensures { result ≡ is_acted self.now }
+    {
+        match self {
+            Acted::Ignored(_) | Acted::Old { .. } | Acted::NotSent { .. } => false,
+            Acted::Plain
+            | Acted::Joined { .. }
+            | Acted::Left
+            | Acted::Moved { .. }
+            | Acted::Clocked { .. } => true,
+        }
+    }
+}
+
+impl Said {
+    ghost use Rattle.std.specs.Prelude.{◌≡◌};
+    ghost use Rattle.jm_book.specs.Answers.{is_said};
+
+    /// Whether the message is a step.
+    pub(crate) fn is_taken(&self) -> bool
+        ensures { result ≡ is_said self.now }
+    {
+        match self {
+            Said::RecordFull { .. } => false,
+            Said::Done { act, .. } => act.is_taken(),
+        }
+    }
 }

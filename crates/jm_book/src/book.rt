@@ -1,44 +1,45 @@
-//! The book of one session.
+//! The book of one session: a core, and the tape of the steps that were taken.
 
-ghost use Rattle.std.specs.Prelude.{◌≡◌, ◌+◌, ◌≤◌, [], ◌∷◌, ◌++◌, length, IfOk, OnOk, IsTrue};
+ghost use Rattle.std.specs.Prelude.{◌≡◌, ◌+◌, ◌≤◌, ◌<◌, false, [], length, IfOk, OnOk, IsTrue, if◌then◌else◌};
+ghost use Rattle.jm_wire.specs.Octets.{Appends};
 ghost use Rattle.jm_book.specs.Book.{Told, IsReady, Takes};
-ghost use Rattle.jm_book.specs.Session.{session_of, pending_of, checkpoint_of};
-ghost use Rattle.jm_book.specs.Answers.{enter_answer, is_entered, is_full};
+ghost use Rattle.jm_book.specs.Stream.{stream_of};
+ghost use Rattle.jm_book.specs.Session.{session_of, checkpoint_of};
+ghost use Rattle.jm_book.specs.Packet.{packet_of, HasShortNext};
+ghost use Rattle.jm_book.specs.Answers.{is_entered, is_accepted, is_packet, is_moved, is_joined, is_left, is_noted, is_given, is_said};
+ghost use Rattle.jm_book.specs.BookAnswers.{has_room, enter_answer, play_answer, cut_answer, ack_answer, join_answer, leave_answer, hear_answer, feedback_answer, say_answer, feedback_list, address_list};
 ghost use Rattle.jm_book.specs.Legal.{IsLegal};
 
-use crate::answers::Entered;
-use crate::participants::Participants;
-use crate::progress::Progress;
+use crate::answers::{Acked, Acted, Cutted, Entered, Given, Gone, Heard, Joined, Played, Said};
+use crate::keeper::Core;
+use crate::lists::{AddrList, FeedbackList};
+use crate::play::CorePlayed;
 use crate::steps::{Config, Step};
 use crate::tape::{Bare, Tape};
-use jm_section::Place;
+use apple_msg::Message;
+use apple_session::PortKind;
+use jm_cmds::{Command, Sent};
+use jm_edge::Addr;
+use jm_wire::Octets;
 use std::alloc::{AllocError, Global};
 use std::marker::Model;
-
-/// How many local players may enter.
-pub(crate) const MOST_PLAYERS: u8 = 64;
 
 /// One session: its configuration and the list of the steps that were taken.
 #[derive(Debug, Drop)]
 pub struct Book {
-    pub(crate) config: Config,
-    pub(crate) tape: Tape,
-    pub(crate) joined: Participants,
-    pub(crate) progress: Progress,
+    core: Core,
+    tape: Tape,
 }
 
 impl Model for Book {
-    ghost use Rattle.std.specs.Prelude.{◌≡◌, ◌≤◌, length};
     ghost use Rattle.jm_book.specs.Book.{Told};
+    ghost use Rattle.jm_book.specs.Kept.{IsKept};
 
     ghost Value = { Told };
 
-    ghost use Rattle.jm_book.specs.Session.{session_of};
-    ghost use Rattle.jm_book.specs.Kept.{Counts, IsKept};
+    ghost view = { λ b. record { config = b.core.config; steps = b.tape.steps; spare = b.tape.spare } };
 
-    ghost view = { λ b. record { config = b.config; steps = b.tape.steps; spare = b.tape.spare } };
-
-    ghost invariant = { λ b. IsKept b.config b.tape b.joined b.progress };
+    ghost invariant = { λ b. IsKept b.core b.tape };
 }
 
 impl Book {
@@ -47,18 +48,10 @@ impl Book {
         requires { (1 ≤ cfg.events) × (cfg.events ≤ 4194304) }
         ensures { IfOk result (λ b. (b.config ≡ cfg) × (b.steps ≡ [])) }
     {
+        let core = Core::new(cfg, alloc)?;
         Ok(Book {
-            config: cfg,
+            core,
             tape: Tape::new(alloc),
-            joined: Participants::new(),
-            progress: Progress {
-                entered: 0,
-                packets: 0,
-                first_pending: 0,
-                tick: 0,
-                list_len: 0,
-                place: Place::First,
-            },
         })
     }
 
@@ -71,10 +64,11 @@ impl Book {
         self.tape.reserve()
     }
 
-    pub(crate) fn is_full(&self) -> bool
-        ensures { result ≡ is_full self.now.config self.now.steps }
+    /// Whether a step may still be taken.
+    fn has_room(&self) -> bool
+        ensures { result ≡ has_room self.now.config self.now.steps }
     {
-        self.tape.len() >= self.config.events as usize
+        self.tape.len() < self.core.events() as usize
     }
 
     /// A local player enters. Players have the numbers 0, 1 and so on.
@@ -83,45 +77,198 @@ impl Book {
         ensures answer { result ≡ enter_answer self.old.config self.old.steps }
         ensures taken { Takes self.old self.new (is_entered result) Step.Enter }
     {
-        if self.is_full() {
-            return Entered::RecordFull {
-                events: self.config.events,
-            };
+        let room = self.has_room();
+        let answer = self.core.enter(room);
+        if let Entered::Player(_) = answer {
+            self.tape.push(Bare::Enter);
         }
-        if self.progress.entered >= MOST_PLAYERS {
-            return Entered::PlayersFull { most: MOST_PLAYERS };
+        answer
+    }
+
+    /// A participant joins. Its mark is the last packet that was sent, or 0 where none was; its
+    /// player number is 64 and the least slot that no joined participant has.
+    pub fn join(&mut self, ssrc: u32) -> Joined
+        requires { IsReady self.old }
+        ensures answer { result ≡ join_answer self.old.config self.old.steps ssrc }
+        ensures taken { Takes self.old self.new (is_joined result) (Step.Join ssrc) }
+    {
+        let room = self.has_room();
+        let answer = self.core.join(ssrc, room);
+        if let Joined::At { .. } = answer {
+            self.tape.push(Bare::Join { ssrc });
         }
-        let player = self.progress.entered;
-        self.tape.push(Bare::Enter);
-        self.progress.entered = player + 1;
-        Entered::Player(player)
+        answer
+    }
+
+    /// A participant leaves. Its peer is dropped, so that its next invitation begins anew.
+    pub fn leave(&mut self, ssrc: u32) -> Gone
+        requires { IsReady self.old }
+        ensures answer { result ≡ leave_answer self.old.config self.old.steps ssrc }
+        ensures taken { Takes self.old self.new (is_left result) (Step.Leave ssrc) }
+    {
+        let room = self.has_room();
+        let answer = self.core.leave(ssrc, room);
+        if let Gone::Left = answer {
+            self.tape.push(Bare::Leave { ssrc });
+        }
+        answer
+    }
+
+    /// A participant reports the low 16 bits of the last packet that it received, which moves its
+    /// mark up to that packet.
+    pub fn ack(&mut self, ssrc: u32, seq: u16) -> Acked
+        requires { IsReady self.old }
+        ensures answer { result ≡ ack_answer self.old.config self.old.steps ssrc seq }
+        ensures taken { Takes self.old self.new (is_moved result) (Step.Ack ssrc seq) }
+    {
+        let room = self.has_room();
+        let answer = self.core.ack(ssrc, seq, room);
+        if let Acked::Moved { .. } = answer {
+            self.tape.push(Bare::Ack { ssrc, seq });
+        }
+        answer
+    }
+
+    /// The host received the participant's own packet with these low 16 bits of its number. The number is kept
+    /// until a later one comes or the participant leaves.
+    pub fn hear(&mut self, ssrc: u32, seq: u16) -> Heard
+        requires { IsReady self.old }
+        ensures answer { result ≡ hear_answer self.old.config self.old.steps ssrc }
+        ensures taken { Takes self.old self.new (is_noted result) (Step.Hear ssrc seq) }
+    {
+        let room = self.has_room();
+        let answer = self.core.hear(ssrc, seq, room);
+        if let Heard::Noted = answer {
+            self.tape.push(Bare::Hear { ssrc, seq });
+        }
+        answer
+    }
+
+    /// Puts into `out` what is to be reported to the joined peers, in their order: to each that was heard, at the
+    /// address of its control port, the number of the last packet that came from it.
+    pub fn feedback(&mut self, out: &mut FeedbackList) -> Given
+        requires { IsReady self.old }
+        ensures answer { result ≡ feedback_answer self.old.config self.old.steps }
+        ensures taken { Takes self.old self.new (is_given result) Step.Feedback }
+        ensures list { out.new ≡ (if is_given result then feedback_list self.old.config self.old.steps else out.old) }
+    {
+        let room = self.has_room();
+        let answer = self.core.feedback(out, room);
+        if let Given::Given = answer {
+            self.tape.push(Bare::Feedback);
+        }
+        answer
+    }
+
+    /// Answers a message that came to `port` from `from` at the moment `now`, in units of 100 microseconds. It is
+    /// one step, unless it is ignored, or reports what is old or not sent.
+    pub fn say(&mut self, port: PortKind, from: Addr, m: &Message, now: u64) -> Said
+        requires { IsReady self.old }
+        ensures answer { result ≡ say_answer self.old.config self.old.steps port from m.now now }
+        ensures taken { Takes self.old self.new (is_said result) (Step.Say port from m.now now) }
+    {
+        let room = self.has_room();
+        let answer = self.core.say(port, from, m, now, room);
+        if answer.is_taken() {
+            self.tape.push(Bare::Say {
+                port,
+                from,
+                message: m.copy(),
+                now,
+            });
+        }
+        answer
     }
 }
 
 impl Book {
+    /// A player's command, at this tick in units of 100 microseconds, becomes pending. It gets the
+    /// latest tick that was taken, where that is later. A refused command is handed back.
+    pub fn play(&mut self, player: u8, command: Command, tick: u64) -> Played
+        requires { IsReady self.old }
+        ensures answer { result ≡ play_answer self.old.config self.old.steps player command tick }
+        ensures taken { Takes self.old self.new (is_accepted result) (Step.Play player command tick) }
+    {
+        let room = self.has_room();
+        let answer = self
+            .core
+            .play(player, &command, tick, self.tape.commands(), room);
+        match answer {
+            CorePlayed::Refused { why } => Played::Refused { why, command },
+            CorePlayed::Accepted { serial, kept } => {
+                let packet = self.core.packets();
+                let latest = self.core.tick();
+                let sent = Sent {
+                    packet,
+                    tick: latest,
+                    command,
+                };
+                self.tape.push_play(player, tick, sent);
+                Played::Accepted { serial, kept }
+            }
+        }
+    }
+
+    /// All pending commands become the next packet, whose octets are put into `out`, at most
+    /// 21,099 of them. A packet without commands has this tick, in units of 100 microseconds, or the
+    /// latest one that was taken, where that is later. A refusal leaves `out` as it was.
+    pub fn cut(&mut self, tick: u64, out: &mut Octets) -> Cutted
+        requires ready { IsReady self.old }
+        requires empty { out.old.octets ≡ [] }
+        requires room { 21100 ≤ out.old.spare }
+        ensures answer { result ≡ cut_answer self.old.config self.old.steps }
+        ensures taken { Takes self.old self.new (is_packet result) (Step.Cut tick) }
+        ensures packet { IsTrue (is_packet result) → Appends out.old out.new (packet_of (session_of self.old.config self.old.steps) tick) }
+        ensures refused { is_packet result ≡ false → out.new ≡ out.old }
+        ensures bound { length out.new.octets ≤ 21099 }
+        ensures parts { IsTrue (is_packet result) → HasShortNext (session_of self.old.config self.old.steps) tick }
+    {
+        let room = self.has_room();
+        let commands = self.tape.commands();
+        let first_pending = commands.len() - self.core.pending();
+        let answer = self.core.cut(tick, &commands[..first_pending], out, room);
+        if let Cutted::Packet { .. } = answer {
+            self.tape.push(Bare::Cut { tick });
+        }
+        answer
+    }
+}
+
+impl Book {
+    /// The synchronization source of the host's stream.
+    pub fn ssrc(&self) -> u32
+        ensures { result ≡ self.now.config.ssrc }
+    {
+        self.core.ssrc()
+    }
+
     /// How many packets were sent, which is the next one's number.
     pub fn packets(&self) -> u64
-        ensures { result ≡ length (session_of self.now.steps).packets }
+        ensures { result ≡ length (stream_of self.now.steps).packets }
     {
-        self.progress.packets
+        self.core.packets()
     }
 
     /// The first packet of which a journal written now would tell: the least mark of the joined
     /// participants, or with none joined the last packet sent, or 0.
     pub fn checkpoint(&self) -> u64
-        ensures { result ≡ checkpoint_of (session_of self.now.steps) }
+        ensures { result ≡ checkpoint_of (session_of self.now.config self.now.steps) }
     {
-        match self.joined.slowest() {
-            Some(one) => one.mark,
-            None => self.progress.packets.saturating_sub(1),
-        }
+        self.core.checkpoint()
     }
 
     /// How many commands are pending.
     pub fn pending(&self) -> usize
-        ensures { result ≡ length (session_of self.now.steps).pending }
+        ensures { result ≡ length (stream_of self.now.steps).pending }
     {
-        self.tape.commands().len() - self.progress.first_pending
+        self.core.pending()
+    }
+
+    /// Puts into `out` the data addresses of the joined peers, in their order: where packets go.
+    pub fn addresses(&self, out: &mut AddrList)
+        ensures { out.new ≡ address_list self.now.config self.now.steps }
+    {
+        self.core.addresses(out);
     }
 
     /// How many steps were taken. Each was taken by what the calls answer after the steps before it.
@@ -136,12 +283,7 @@ impl Book {
     pub fn finish(self) -> Vec<Step>
         ensures { result.items ≡ self.steps }
     {
-        let Book {
-            config: _,
-            tape,
-            joined: _,
-            progress: _,
-        } = self;
+        let Book { core: _, tape } = self;
         tape.finish()
     }
 }

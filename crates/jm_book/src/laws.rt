@@ -3,6 +3,19 @@
 
 ghost use Rattle.jm_book.specs.Laws.{PacketsInOrder, TicksInOrder, KeepsPlays, NumbersPlays, KeepsPlayersInOrder, CountsPlays, SendsEntries, TakesLegally, TookLegally, PassesNoMark, NeverFalls, MarksSent, JoinsOnce, SharesNoSlot, FitsTape, CallsKeepLegal, ReportsAdvance, JoinsAtLast, KeepsTheLimits};
 
+mod members;
+mod stream;
+
+pub use members::{
+    counts_players, departures_free, hears_one, invited_stay, is_least_mark, is_legal_by_room,
+    joins_few, joins_one, keeps_joined, leave_drops_peer, leavers_go, leaves_one, names_slowest,
+    parts_stay, peers_are_joined, peers_come, reports_move, reports_one, says_one, stays_near,
+};
+pub use stream::{
+    counts_cuts, keeps_packets, keeps_stream, leaves_nothing, needs_no_cut, packets_fit,
+    pends_since_cut, plays_append, sends_pending,
+};
+
 /// Packet numbers never fall along the sent commands, nor along those and the pending ones.
 pub fn packets_in_order()
     ensures { PacketsInOrder }

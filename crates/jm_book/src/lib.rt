@@ -4,16 +4,22 @@
 mod answers;
 mod book;
 mod cut;
+mod keeper;
 pub mod laws;
+mod lists;
 mod marks;
 mod participants;
 mod play;
-mod progress;
+mod roster;
+mod say;
 mod steps;
 mod tape;
 
-pub use answers::{Acked, Cutted, Entered, Joined, PlayFault, Played};
+pub use answers::{
+    Acked, Acted, Cutted, Entered, Given, Gone, Heard, Joined, PlayFault, Played, Said,
+};
 pub use book::Book;
+pub use lists::{AddrList, FeedbackEntry, FeedbackList};
 pub use participants::Participant;
 pub use steps::{Config, Step};
 

@@ -6,34 +6,78 @@ ghost use Rattle.std.specs.Prelude.{◌≡◌, ◌≤◌, ◌+◌, length, [], �
 ghost use Rattle.jm_book.specs.Tape.{Taped, Grows, bare_step};
 
 use crate::steps::Step;
+use apple_msg::Message;
+use apple_session::PortKind;
 use jm_cmds::Sent;
+use jm_edge::Addr;
 use std::alloc::{AllocError, Global};
 use std::marker::Model;
 
 /// A step that brings no command.
-#[derive(Clone, Copy, Debug)]
+#[derive(Debug, Drop)]
 pub(crate) enum Bare {
     Enter,
-    Cut { tick: u64 },
-    Ack { ssrc: u32, seq: u16 },
-    Join { ssrc: u32 },
+    Cut {
+        tick: u64,
+    },
+    Ack {
+        ssrc: u32,
+        seq: u16,
+    },
+    Join {
+        ssrc: u32,
+    },
+    Leave {
+        ssrc: u32,
+    },
+    Hear {
+        ssrc: u32,
+        seq: u16,
+    },
+    Feedback,
+    Say {
+        port: PortKind,
+        from: Addr,
+        message: Message,
+        now: u64,
+    },
 }
 
 impl Bare {
-    fn step(self) -> Step
-        ensures { result ≡ bare_step self }
+    fn step(&self) -> Step
+        ensures { result ≡ bare_step self.now }
     {
         match self {
             Bare::Enter => Step::Enter,
-            Bare::Cut { tick } => Step::Cut { tick },
-            Bare::Ack { ssrc, seq } => Step::Ack { ssrc, seq },
-            Bare::Join { ssrc } => Step::Join { ssrc },
+            Bare::Cut { tick } => Step::Cut { tick: *tick },
+            Bare::Ack { ssrc, seq } => Step::Ack {
+                ssrc: *ssrc,
+                seq: *seq,
+            },
+            Bare::Join { ssrc } => Step::Join { ssrc: *ssrc },
+            Bare::Leave { ssrc } => Step::Leave { ssrc: *ssrc },
+            Bare::Hear { ssrc, seq } => Step::Hear {
+                ssrc: *ssrc,
+                seq: *seq,
+            },
+            Bare::Feedback => Step::Feedback,
+            Bare::Say {
+                port,
+                from,
+                message,
+                now,
+            } => Step::Say {
+                port: *port,
+                from: *from,
+                message: message.copy(),
+                now: *now,
+            },
         }
     }
 }
 
 /// A step without its command: that of the k-th play is the k-th command.
-#[derive(Clone, Copy, Debug)]
+#[derive(Debug, Drop)]
 pub(crate) enum Mark {
     Play { player: u8, tick: u64 },
     Other(Bare),
@@ -126,7 +170,7 @@ impl Tape {
         } = self;
         let mut left = commands.into_iter();
         for mark in &marks {
-            match *mark {
+            match mark {
                 Mark::Other(bare) => steps.push_reserved(bare.step()),
                 Mark::Play { player, tick } => {
                     let Some(sent) = left.next() else {
@@ -138,9 +182,9 @@ impl Tape {
                         command,
                     } = sent;
                     steps.push_reserved(Step::Play {
-                        player,
+                        player: *player,
                         command,
-                        tick,
+                        tick: *tick,
                     });
                 }
             }

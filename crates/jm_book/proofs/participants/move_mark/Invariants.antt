@@ -1,5 +1,5 @@
 use Rattle.std.proofs.Common.{◌≡◌, ◌++◌, take, drop}
-use Rattle.jm_book.specs.Session.{moved}
+use Rattle.jm_book.specs.Participants.{moved}
 use Rattle.jm_book.proofs.participants.move_mark.Given as goal
 
 abbrev pub invariant-loop-one : goal.invariant-loop-one

@@ -1,8 +1,10 @@
-use Rattle.std.proofs.Common.{arith, length-append}
-use Rattle.jm_book.specs.Session.{length_as_sent}
+use Rattle.std.proofs.Common.{◌∙◌, ap, length}
+use Rattle.jm_book.specs.Stream.{Stream}
+use Rattle.jm_book.specs.Session.{session_stream}
 use Rattle.jm_book.proofs.book.Book.pending.Goals as goal
 
 pub returns : goal.returns
 returns c =
-    let kept = c.self.invariant.counts in
-    rw (← c.self.view_is, c.commands.ensures, kept.commands_are, kept.first_pending) (simp (length-append, length_as_sent) (omega arith))
+    let core = c.self.inside.core in
+    let same = session_stream core.config c.self.inside.tape.steps in
+    rw (← c.self.view_is) (c.pending.ensures.number ∙ c.self.invariant.stands.stream.pending ∙ ap (λ (x : Stream). length x.pending) same)

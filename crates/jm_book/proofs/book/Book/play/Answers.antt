@@ -1,14 +1,45 @@
-use Rattle.std.proofs.Common.{◌∙◌, sym}
-use Rattle.jm_book.proofs.OneMore.{kept_play}
+use Rattle.std.proofs.Common.{◌≡◌, ◌∙◌, true, sym, ap, refl, None, Option}
+use Rattle.jm_book.specs.declared.answers.PlayFault.{PlayFault}
+use Rattle.jm_book.specs.declared.play.CorePlayed.{CorePlayed}
+use Rattle.jm_book.specs.declared.steps.Step.TheVariants.{Play}
+use Rattle.jm_book.specs.Answers.{is_accepted}
+use Rattle.jm_book.specs.BookAnswers.{play_refusal, has_room}
+use Rattle.jm_book.specs.Core.{core_played_as, core_refusal, is_core_accepted}
+use Rattle.jm_book.specs.Legal.{IsTaken}
+use Rattle.jm_book.proofs.OneMore.{lent_all, tape_refusal, kept_play, accepted_play, refused_play}
 use Rattle.jm_book.proofs.book.Book.play.Goals as goal
 
-pub invariant_of-self : goal.invariant_of-self
-invariant_of-self c =
+pub play-answer-requires-clause-order : goal.play-answer-requires-clause-order
+play-answer-requires-clause-order c = rw c.commands.ensures (lent_all c.self.inside.core c.self.inside.tape c.self.invariant).order
+
+pub play-answer-requires-clause-limits : goal.play-answer-requires-clause-limits
+play-answer-requires-clause-limits c = rw c.commands.ensures (lent_all c.self.inside.core c.self.inside.tape c.self.invariant).limits
+
+pub invariant_of-self-in-Accepted : goal.invariant_of-self-in-Accepted
+invariant_of-self-in-Accepted c =
+    let core = c.self.inside.core in
     let tape = c.self.inside.tape in
-    let config = c.self.inside.config in
-    let latest = rw (← c.self.view_is) at c.tick_after-latest.ensures in
-    let listed = rw (← c.self.view_is) at c.list_with-self-inside.ensures.value in
-    let refused = rw (← c.self.view_is) at (sym c.refusal.ensures ∙ c.in-None.is) in
-    rw (listed, latest, c.after-self-inside.ensures)
-    (kept_play config tape c.push_play.new.self c.self.inside.joined c.self.inside.progress c.args.player c.args.tick c.args.command
-    c.self.invariant refused c.push_play.ensures.steps.steps (rw latest at c.push_play.ensures.commands))
+    let kept = c.self.invariant in
+    let room = rw (← c.self.view_is) at c.has_room-room.ensures in
+    let answer = rw (room, c.commands.ensures) at c.in-Accepted.ensures.answer in
+    let taken : IsTaken core.config tape.steps (Play c.args.player c.args.command c.args.tick) = (accepted_play core tape c.args.player c.args.command c.args.tick c.in-Accepted.serial c.in-Accepted.kept kept answer).0 in
+    kept_play core c.play-answer.new.self tape c.push_play.new.self c.args.player c.args.command c.args.tick kept taken c.in-Accepted.ensures.after c.push_play.ensures.steps.steps
+    (rw (c.packets-packet.ensures, c.tick-latest.ensures, c.in-Accepted.ensures.after) at c.push_play.ensures.commands)
+
+pub returns-in-Refused-clause-answer : goal.returns-in-Refused-clause-answer
+returns-in-Refused-clause-answer c =
+    let core = c.self.inside.core in
+    let tape = c.self.inside.tape in
+    let kept = c.self.invariant in
+    let room = rw (← c.self.view_is) at c.has_room-room.ensures in
+    let answer = rw (room, c.commands.ensures) at c.in-Refused.ensures.answer in
+    rw (← c.self.view_is) (refused_play core tape c.args.player c.args.command c.args.tick c.in-Refused.why kept answer)
+
+pub returns-in-Accepted-clause-answer : goal.returns-in-Accepted-clause-answer
+returns-in-Accepted-clause-answer c =
+    let core = c.self.inside.core in
+    let tape = c.self.inside.tape in
+    let kept = c.self.invariant in
+    let room = rw (← c.self.view_is) at c.has_room-room.ensures in
+    let answer = rw (room, c.commands.ensures) at c.in-Accepted.ensures.answer in
+    rw (← c.self.view_is) (accepted_play core tape c.args.player c.args.command c.args.tick c.in-Accepted.serial c.in-Accepted.kept kept answer).1

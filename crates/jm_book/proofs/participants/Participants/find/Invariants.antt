@@ -1,5 +1,5 @@
 use Rattle.std.proofs.Common.{◌≡◌, drop}
-use Rattle.jm_book.specs.Session.{find_joined}
+use Rattle.jm_book.specs.Participants.{find_joined}
 use Rattle.jm_book.proofs.participants.Participants.find.Given as goal
 
 abbrev pub invariant-loop-one : goal.invariant-loop-one

@@ -1,5 +1,5 @@
 use Rattle.std.proofs.Common.{◌≡◌, ◌+◌, ◌-◌, arith}
-use Rattle.jm_book.specs.Session.{free_from_more, free_from_none}
+use Rattle.jm_book.specs.Participants.{free_from_more, free_from_none}
 use Rattle.jm_book.proofs.participants.Participants.free_slot.Goals as goal
 
 pub returns-then-not-has_slot-clause-value : goal.returns-then-not-has_slot-clause-value

@@ -1,5 +1,5 @@
 use Rattle.std.proofs.Common.{◌≡◌, ◌-◌}
-use Rattle.jm_book.specs.Session.{free_from}
+use Rattle.jm_book.specs.Participants.{free_from}
 use Rattle.jm_book.proofs.participants.Participants.free_slot.Given as goal
 
 abbrev pub invariant-loop-slot : goal.invariant-loop-slot

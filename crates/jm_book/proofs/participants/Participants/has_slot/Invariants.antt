@@ -1,5 +1,5 @@
 use Rattle.std.proofs.Common.{◌≡◌, drop}
-use Rattle.jm_book.specs.Session.{has_slot}
+use Rattle.jm_book.specs.Participants.{has_slot}
 use Rattle.jm_book.proofs.participants.Participants.has_slot.Given as goal
 
 abbrev pub invariant-loop-one : goal.invariant-loop-one

@@ -1,5 +1,5 @@
 use Rattle.std.proofs.Common.{◌≡◌, drop}
-use Rattle.jm_book.specs.Session.{least_mark}
+use Rattle.jm_book.specs.Participants.{least_mark}
 use Rattle.jm_book.proofs.participants.Participants.slowest.Given as goal
 
 abbrev pub invariant-loop-one : goal.invariant-loop-one

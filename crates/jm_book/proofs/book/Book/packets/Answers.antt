@@ -1,0 +1,10 @@
+use Rattle.std.proofs.Common.{◌∙◌, ap, length}
+use Rattle.jm_book.specs.Stream.{Stream}
+use Rattle.jm_book.specs.Session.{session_stream}
+use Rattle.jm_book.proofs.book.Book.packets.Goals as goal
+
+pub returns : goal.returns
+returns c =
+    let core = c.self.inside.core in
+    let same = session_stream core.config c.self.inside.tape.steps in
+    rw (← c.self.view_is) (c.packets.ensures ∙ c.self.invariant.stands.stream.packets ∙ ap (λ (x : Stream). length x.packets) same)
