@@ -1,0 +1,10 @@
+pub mod Words
+pub mod Name
+pub mod Keywords
+pub mod Line
+pub mod Piece
+pub mod FaultText
+pub mod RefusalText
+pub mod StateText
+pub mod ListText
+pub mod AnswerText
