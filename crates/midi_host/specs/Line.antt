@@ -1,5 +1,6 @@
 -- The grammar of a script's lines.
 use Rattle.std.specs.Prelude.{ℕ, ◌^◌, ◌≤◌, Bool, ◌==◌, if◌then◌else◌, List, [], ◌∷◌, length, Option, Some, None, Result, Ok, Err}
+use Rattle.jm_wire.specs.Readers.{◌>>=◌}
 use Rattle.jm_cmds.specs.declared.commands.Command.{Command}
 use Rattle.jm_cmds.specs.declared.reading.CmdFault.{CmdFault}
 use Rattle.jm_cmds.specs.Reading.{command_read}
@@ -10,11 +11,6 @@ use Rattle.midi_host.specs.declared.script.Line.TheVariants as line
 use Rattle.midi_host.specs.declared.script.LineFault.{LineFault}
 use Rattle.midi_host.specs.declared.script.LineFault.TheVariants.{Word, Form, Command as NotACommand}
 use Rattle.midi_host.specs.Words.{first_word, other_words, number_of, ssrc_of, hex_of, keyword_of}
-
-infixl 10 ◌>>=◌
-abbrev pub ◌>>=◌ : {A B : Type 0} → Result A LineFault → (A → Result B LineFault) → Result B LineFault
-(Ok x) >>= f = f x
-(Err e) >>= f = Err e
 
 -- a word that must be there, in its form and range
 abbrev pub need : {A : Type 0} → Option A → Result A LineFault

@@ -3,7 +3,8 @@ use Rattle.std.specs.Prelude.{ℕ, Bool, true, false, ◌≡◌, ◌≢◌, List
 use Rattle.jm_book.specs.declared.steps.Config.{Config}
 use Rattle.jm_book.specs.declared.steps.Step.{Step}
 use Rattle.jm_book.specs.declared.steps.Step.TheVariants as step
-use Rattle.jm_book.specs.Answers.{enter_answer, play_answer, cut_answer, ack_answer, join_answer, is_entered, is_accepted, is_packet, is_moved, is_joined}
+use Rattle.jm_book.specs.BookAnswers.{enter_answer, play_answer, cut_answer, ack_answer, join_answer}
+use Rattle.jm_book.specs.Answers.{is_entered, is_accepted, is_packet, is_moved, is_joined}
 use Rattle.jm_book.specs.Session.{session_of}
 use Rattle.jm_book.specs.Packet.{packet_of}
 use Rattle.midi_host.specs.declared.verb.Cause.{Cause}
@@ -42,13 +43,13 @@ with_step took steps step = if took then steps ++ step ∷ [] else steps
 -- the answer and the state that a line leaves
 abbrev pub answered : State → Line → Lined State
 answered state Blank = taken [] state
-answered state (Session ssrc events) = taken (codes "session\n") (started record { ssrc = ssrc; events = events } [])
+answered state (Session ssrc events) = taken (codes "session\n") (started record { ssrc = ssrc; events = events; name = codes "midi_host" } [])
 answered (started config steps) Enter =
     taken (entered_text (enter_answer config steps)) (started config (with_step (is_entered (enter_answer config steps)) steps step.Enter))
 answered (started config steps) (Play player tick command) =
     taken (played_text (play_answer config steps player command tick)) (started config (with_step (is_accepted (play_answer config steps player command tick)) steps (step.Play player command tick)))
 answered (started config steps) (Cut tick) =
-    taken (cutted_text (cut_answer config steps) (packet_of config (session_of steps) tick)) (started config (with_step (is_packet (cut_answer config steps)) steps (step.Cut tick)))
+    taken (cutted_text (cut_answer config steps) (packet_of (session_of config steps) tick)) (started config (with_step (is_packet (cut_answer config steps)) steps (step.Cut tick)))
 answered (started config steps) (Ack ssrc seq) =
     taken (acked_text (ack_answer config steps ssrc seq)) (started config (with_step (is_moved (ack_answer config steps ssrc seq)) steps (step.Ack ssrc seq)))
 answered (started config steps) (Join ssrc) =

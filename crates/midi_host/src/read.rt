@@ -1,6 +1,6 @@
 //! The verb `read`: what octets are, each line for itself.
 
-ghost use Rattle.std.specs.Prelude.{◌≡◌, ◌++◌, IfOk, List, Option, Some, OnOk, option_map};
+ghost use Rattle.std.specs.Prelude.{◌≡◌, ◌++◌, IfOk, IsSome, List, Option, Some, OnOk, OnErr, option_map};
 ghost use Rattle.jm_cmds.specs.Reading.{command_read};
 ghost use Rattle.jm_section.specs.Reading.{section_read};
 ghost use Rattle.midi_host.specs.Did.{Did};
@@ -19,9 +19,11 @@ use std::alloc::{AllocError, Global};
 #[derive(Debug, Drop)]
 pub struct Read {}
 
-/// The octets of the one word that stands behind the first. It fails where memory runs out.
+/// The octets of the one word that stands behind the first. It fails where memory runs out, which is said of
+/// octets alone.
 fn lone_word(rest: Option<&[u8]>, alloc: Global) -> Result<Option<Vec<u8>>, AllocError>
-    ensures { IfOk result (λ octets. option_map (λ v. v.items) octets ≡ lone_hex (option_map (λ r. r.now) rest.entry)) }
+    ensures octets { IfOk result (λ octets. option_map (λ v. v.items) octets ≡ lone_hex (option_map (λ r. r.now) rest.entry)) }
+    ensures memory { OnErr result (IsSome (lone_hex (option_map (λ r. r.now) rest.entry))) }
 {
     match rest {
         None => Ok(None),

@@ -1,6 +1,6 @@
 //! The verb `replay`: the lines of a script, over one book.
 
-ghost use Rattle.std.specs.Prelude.{◌≡◌, ◌+◌, ◌≤◌, length, IfOk};
+ghost use Rattle.std.specs.Prelude.{◌≡◌, ◌+◌, ◌≤◌, length, IfOk, codes};
 ghost use Rattle.midi_host.specs.Did.{Did};
 ghost use Rattle.midi_host.specs.Told.{told_by};
 ghost use Rattle.midi_host.specs.ReplayState.{answered, lined, state_of, state_of_started, cause_of, Refuses};
@@ -11,6 +11,7 @@ use super::print::{add_acked, add_cutted, add_entered, add_joined, add_played};
 use super::room::PacketRoom;
 use super::script::{Line, LineFault, read_line};
 use super::verb::{Cause, Heard, Verb};
+use apple_msg::Name;
 use jm_book::{Book, Config};
 use jm_cmds::{Command, ReadError};
 use std::alloc::{AllocError, Global};
@@ -156,6 +157,16 @@ impl Replay {
     }
 }
 
+/// The name that the host gives itself.
+fn host_name() -> Name
+    ensures { result ≡ codes "midi_host" }
+{
+    let Some(name) = Name::new(b"midi_host") else {
+        unreachable!()
+    };
+    name
+}
+
 /// `session SSRC EVENTS`.
 fn start(
     replay: &mut Replay,
@@ -167,7 +178,12 @@ fn start(
     requires { (1 ≤ events) × (events ≤ 4194304) }
     ensures { Did result (answered (state_of replay.old.session) (Line.Session ssrc events)) (state_of replay.new.session) out.old.items out.new.items }
 {
-    let book = Book::new(Config { ssrc, events }, alloc)?;
+    let config = Config {
+        ssrc,
+        events,
+        name: host_name(),
+    };
+    let book = Book::new(config, alloc)?;
     let room = PacketRoom::new(alloc)?;
     out.extend_from_slice(b"session\n")?;
     replay.session = Some(Started { book, room });

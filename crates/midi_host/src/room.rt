@@ -4,7 +4,8 @@ ghost use Rattle.std.specs.Prelude.{◌≡◌, ◌+◌, ◌≤◌, length, IfOk,
 ghost use Rattle.jm_book.specs.Book.{IsReady, Takes};
 ghost use Rattle.jm_book.specs.Session.{session_of};
 ghost use Rattle.jm_book.specs.Packet.{packet_of};
-ghost use Rattle.jm_book.specs.Answers.{cut_answer, is_packet};
+ghost use Rattle.jm_book.specs.Answers.{is_packet};
+ghost use Rattle.jm_book.specs.BookAnswers.{cut_answer};
 ghost use Rattle.jm_book.specs.declared.steps.Step.TheVariants.{Cut};
 
 use jm_book::{Book, Cutted};
@@ -42,7 +43,7 @@ impl PacketRoom {
         requires { IsReady book.old }
         ensures answer { result ≡ cut_answer book.old.config book.old.steps }
         ensures taken { Takes book.old book.new (is_packet result) (Cut tick) }
-        ensures packet { IsTrue (is_packet result) → self.new ≡ packet_of book.old.config (session_of book.old.steps) tick }
+        ensures packet { IsTrue (is_packet result) → self.new ≡ packet_of (session_of book.old.config book.old.steps) tick }
     {
         self.octets.clear();
         book.cut(tick, &mut self.octets)

@@ -70,6 +70,41 @@ fn faults_have_their_statuses(rt: HostRuntime) -> Result<(), Fail> {
     Ok(())
 }
 
+/// Plays whose last word is an odd number of digits, another character, no whole command, and more than one.
+const BAD_PLAYS: [(&[u8], &[u8]); 5] = [
+    (
+        b"session 11223344 9\nenter\nplay 0 1 903c6\n",
+        b"session\nplayer 0\nbad-script 3 form\n",
+    ),
+    (
+        b"session 11223344 9\nenter\nplay 0 1 903cg4\n",
+        b"session\nplayer 0\nbad-script 3 form\n",
+    ),
+    (
+        b"session 11223344 9\nenter\nplay 0 1 903c\n",
+        b"session\nplayer 0\nbad-script 3 command\n",
+    ),
+    (
+        b"session 11223344 9\nenter\nplay 0 1 f00102\n",
+        b"session\nplayer 0\nbad-script 3 command\n",
+    ),
+    (
+        b"session 11223344 9\nenter\nplay 0 1 f00102f7f7\n",
+        b"session\nplayer 0\nbad-script 3 command\n",
+    ),
+];
+
+#[test]
+fn bad_plays_are_no_want_of_memory(rt: HostRuntime) -> Result<(), Fail> {
+    for (script, text) in BAD_PLAYS {
+        assert_eq!(rt;
+            runs(rt.alloc(), script, &[], &[], text)?,
+            (Status::BadScript, true)
+        );
+    }
+    Ok(())
+}
+
 /// Commands and a section, and octets that are none.
 const OCTETS: &[u8] =
     b"command 903c80\ncommand 903c\ncommand 3c\ncommand f4\ncommand f0010203f700\nsection 08903c6400f8003c00\nsection 04f00100f4\nsection 09903c6400f100003c00\nsection 05903c648080\nsection 06903c6400b080\npacket 80\n";

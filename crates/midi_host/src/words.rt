@@ -1,8 +1,8 @@
 //! The words of a line: how they are parted, and the numbers and octets that they write.
 
-ghost use Rattle.std.specs.Prelude.{◌≡◌, ◌^◌, ◌≤◌, List, IfOk, IfSome, option_map};
+ghost use Rattle.std.specs.Prelude.{◌≡◌, ◌^◌, ◌≤◌, List, IfOk, OnErr, IfSome, IsSome, IsTrue, None, false, option_map};
 ghost use Rattle.std.specs.List.{list_all};
-ghost use Rattle.std.specs.Char.{is_ascii_digit};
+ghost use Rattle.std.specs.Char.{is_ascii_digit, is_ascii_hexdigit};
 ghost use Rattle.midi_host.specs.Words.{first_word, other_words, is_number, number_of, ssrc_of, hex_of, keyword_of};
 
 use hex::FromHexError;
@@ -69,16 +69,44 @@ pub fn ssrc(word: &[u8]) -> Option<u32>
     }
 }
 
-/// The octets that one or more pairs of hexadecimal digits write. It fails where memory runs out.
+fn has_hexadecimal_digits_alone(word: &[u8]) -> bool
+    ensures { result ≡ list_all is_ascii_hexdigit word.now }
+{
+    word.iter().all(|c| c.is_ascii_hexdigit())
+}
+
+/// Whether a word is one or more pairs of hexadecimal digits.
+fn are_octets(word: &[u8]) -> bool
+    ensures octets { IsTrue result → IsSome (hex_of word.now) }
+    ensures none { result ≡ false → hex_of word.now ≡ None }
+{
+    if word.is_empty() {
+        return false;
+    }
+    if word.len() % 2 == 1 {
+        return false;
+    }
+    has_hexadecimal_digits_alone(word)
+}
+
+/// The octets that one or more pairs of hexadecimal digits write. It fails where memory runs out, which is
+/// said of such a word alone.
 pub fn hex_octets(word: &[u8], alloc: Global) -> Result<Option<Vec<u8>>, AllocError>
-    ensures { IfOk result (λ octets. option_map (λ v. v.items) octets ≡ hex_of word.now) }
+    ensures octets { IfOk result (λ octets. option_map (λ v. v.items) octets ≡ hex_of word.now) }
+    ensures memory { OnErr result (IsSome (hex_of word.now)) }
 {
     if word.is_empty() {
         return Ok(None);
     }
     match hex::decode(alloc, word) {
         Ok(octets) => Ok(Some(octets)),
-        Err(FromHexError::OutOfMemory) => Err(AllocError),
+        Err(FromHexError::OutOfMemory) => {
+            if are_octets(word) {
+                Err(AllocError)
+            } else {
+                Ok(None)
+            }
+        }
         Err(_) => Ok(None),
     }
 }

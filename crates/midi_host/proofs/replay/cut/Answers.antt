@@ -1,7 +1,8 @@
 use Rattle.std.proofs.Common.{◌≡◌, refl, ℕ, List, IsTrue}
 use Rattle.jm_book.specs.declared.answers.Cutted.{Cutted}
 use Rattle.jm_book.specs.declared.answers.Cutted.TheVariants.{Packet, RecordFull, Behind}
-use Rattle.jm_book.specs.Answers.{cut_answer, is_packet}
+use Rattle.jm_book.specs.Answers.{is_packet}
+use Rattle.jm_book.specs.BookAnswers.{cut_answer}
 use Rattle.jm_book.specs.Packet.{packet_of}
 use Rattle.jm_book.specs.Session.{session_of}
 use Rattle.midi_host.specs.AnswerText.{cutted_text}
@@ -18,7 +19,7 @@ pub returns : goal.returns
 returns c =
     let book = c.args.session.now.book in
     let answer = cut_answer book.config book.steps in
-    let packet = packet_of book.config (session_of book.steps) c.args.tick in
+    let packet = packet_of (session_of book.config book.steps) c.args.tick in
     let answer_is : c.cut-answer.result ≡ answer = rw (c.in_ok-reserve.ensures.config, c.in_ok-reserve.ensures.steps) at c.cut-answer.ensures.answer in
     let there : IsTrue (is_packet c.cut-answer.result) → c.cut-answer.new.self ≡ packet = rw (c.in_ok-reserve.ensures.config, c.in_ok-reserve.ensures.steps) at c.cut-answer.ensures.packet in
     record {
