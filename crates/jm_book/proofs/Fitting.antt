@@ -28,7 +28,7 @@ timed_after_any number other before [] = refl
 timed_after_any number other before (one ∷ others) =
     ap (λ (ts : List Timed). record { delta = one.tick - before; command = one.command } ∷ ts) (timed_after_any number other one.tick others)
 
-timed_any : (number other : ℕ) (entries : List Entry) → timed_of (as_sent number entries) ≡ timed_of (as_sent other entries)
+pub timed_any : (number other : ℕ) (entries : List Entry) → timed_of (as_sent number entries) ≡ timed_of (as_sent other entries)
 timed_any number other [] = refl
 timed_any number other (one ∷ others) = timed_after_any number other one.tick (one ∷ others)
 

@@ -3,8 +3,10 @@ use Rattle.std.proofs.Common.{ℕ, ◌+◌, ◌≡◌, ◌≤◌, List, [], ◌�
 use Rattle.jm_cmds.specs.declared.history.Sent.{Sent}
 use Rattle.jm_book.specs.declared.steps.Step.TheVariants as step
 use Rattle.jm_book.specs.declared.tape.Bare.{Bare}
+use Rattle.jm_book.specs.declared.tape.Bare.TheVariants as bare
 use Rattle.jm_book.specs.declared.tape.Mark.{Mark}
 use Rattle.jm_book.specs.declared.tape.Mark.TheVariants.{Play, Other}
+use Rattle.jm_book.specs.Commands.{HasCommand, HaveCommands, AreCommands}
 use Rattle.jm_book.specs.Tape.{bare_step, woven, plays}
 
 pub plays_push_other : (marks : List Mark) (bare : Bare) → plays (marks ++ Other bare ∷ []) ≡ plays marks
@@ -38,3 +40,20 @@ length_woven (Other one ∷ marks) sent enough = omega (arith, length_woven mark
 length_woven (Play player tick ∷ marks) [] enough = absurd (omega arith)
 length_woven (Play player tick ∷ marks) (one ∷ sent) enough =
     let few : plays marks ≤ length sent = omega arith in omega (arith, length_woven marks sent few)
+
+bare_has : (bare : Bare) → HasCommand (bare_step bare)
+bare_has bare.Enter = tt
+bare_has (bare.Cut tick) = tt
+bare_has (bare.Ack ssrc seq) = tt
+bare_has (bare.Join ssrc) = tt
+bare_has (bare.Leave ssrc) = tt
+bare_has (bare.Hear ssrc seq) = tt
+bare_has bare.Feedback = tt
+bare_has (bare.Say port from message now) = tt
+
+-- plays woven with commands within their bounds bring these
+pub woven_have : (marks : List Mark) (sent : List Sent) → AreCommands sent → HaveCommands (woven marks sent)
+woven_have [] sent are = tt
+woven_have (Other one ∷ marks) sent are = (bare_has one, woven_have marks sent are)
+woven_have (Play player tick ∷ marks) [] are = tt
+woven_have (Play player tick ∷ marks) (one ∷ sent) are = (are.0, woven_have marks sent are.1)

@@ -2,6 +2,8 @@ pub mod AloneLaws
 pub mod Answers
 pub mod Book
 pub mod BookAnswers
+pub mod CommandLaws
+pub mod Commands
 pub mod Core
 pub mod EnterLaws
 pub mod InvitedLaws

@@ -7,6 +7,7 @@ use Rattle.jm_book.specs.declared.tape.Bare.{Bare}
 use Rattle.jm_book.specs.declared.tape.Bare.TheVariants as bare
 use Rattle.jm_book.specs.declared.tape.Mark.{Mark}
 use Rattle.jm_book.specs.declared.tape.Mark.TheVariants.{Play, Other}
+use Rattle.jm_book.specs.Commands.{AreCommands}
 
 pub record Taped : Type 0 where
   pub steps : List Step
@@ -50,8 +51,9 @@ taped marks commands mark_room command_room step_room = record {
   spare = min (mark_room - length marks) (min (command_room - length commands) (step_room - length marks));
 }
 
--- each play has its command, and there is room to hand the steps out
+-- each play has its command, within its bounds, and there is room to hand the steps out
 pub record IsTape (marks : List Mark) (commands : List Sent) (steps : List Step) (step_room : ℕ) : Type 0 where
   pub all : plays marks ≡ length commands
+  pub within : AreCommands commands
   pub out : steps ≡ []
   pub room : length marks ≤ step_room

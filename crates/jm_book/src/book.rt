@@ -3,6 +3,7 @@
 ghost use Rattle.std.specs.Prelude.{◌≡◌, ◌+◌, ◌≤◌, ◌<◌, false, [], length, IfOk, OnOk, IsTrue, if◌then◌else◌};
 ghost use Rattle.jm_wire.specs.Octets.{Appends};
 ghost use Rattle.jm_book.specs.Book.{Told, IsReady, Takes};
+ghost use Rattle.jm_book.specs.Commands.{HaveCommands};
 ghost use Rattle.jm_book.specs.Stream.{stream_of};
 ghost use Rattle.jm_book.specs.Session.{session_of, checkpoint_of};
 ghost use Rattle.jm_book.specs.Packet.{packet_of, HasShortNext};
@@ -271,10 +272,12 @@ impl Book {
         self.core.addresses(out);
     }
 
-    /// How many steps were taken. Each was taken by what the calls answer after the steps before it.
+    /// How many steps were taken. Each was taken by what the calls answer after the steps before it, and the command of
+    /// each play has its numbers within their bounds.
     pub fn steps(&self) -> usize
         ensures number { result ≡ length self.now.steps }
         ensures legal { IsLegal self.now.config self.now.steps }
+        ensures commands { HaveCommands self.now.steps }
     {
         self.tape.len()
     }

@@ -12,8 +12,8 @@ pub use members::{
     parts_stay, peers_are_joined, peers_come, reports_move, reports_one, says_one, stays_near,
 };
 pub use stream::{
-    counts_cuts, keeps_packets, keeps_stream, leaves_nothing, needs_no_cut, packets_fit,
-    pends_since_cut, plays_append, sends_pending,
+    counts_cuts, keeps_commands, keeps_packets, keeps_stream, leaves_nothing, needs_no_cut,
+    packets_fit, pends_since_cut, plays_append, sends_pending,
 };
 
 /// Packet numbers never fall along the sent commands, nor along those and the pending ones.

@@ -3,6 +3,7 @@
 //! steps again when it is handed out.
 
 ghost use Rattle.std.specs.Prelude.{◌≡◌, ◌≤◌, ◌+◌, length, [], ◌∷◌, ◌++◌, IfOk, OnErr, OnOk, IsOk};
+ghost use Rattle.jm_book.specs.Commands.{HaveCommands};
 ghost use Rattle.jm_book.specs.Tape.{Taped, Grows, bare_step};
 
 use crate::steps::Step;
@@ -141,6 +142,8 @@ impl Tape {
         ensures steps { Grows self.old self.new (Step.Play player sent.command tick) }
         ensures commands { self.new.commands ≡ self.old.commands ++ sent ∷ [] }
     {
+        // that a command has a size says that its numbers are within their bounds
+        prove!(sent.command.size() <= 2048);
         self.marks.push_reserved(Mark::Play { player, tick });
         self.commands.push_reserved(sent);
     }
@@ -154,7 +157,8 @@ impl Tape {
 
     /// How many steps were taken.
     pub(crate) fn len(&self) -> usize
-        ensures { result ≡ length self.now.steps }
+        ensures number { result ≡ length self.now.steps }
+        ensures commands { HaveCommands self.now.steps }
     {
         self.marks.len()
     }

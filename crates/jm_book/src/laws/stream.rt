@@ -1,5 +1,6 @@
 //! What holds of the stream: its packets, and what is pending.
 
+ghost use Rattle.jm_book.specs.Commands.{KeepsCommands};
 ghost use Rattle.jm_book.specs.StreamConduct.{SendsPending, LeavesNothing, PendsSinceCut, KeepsPackets, CountsCuts, KeepsStream, PlaysAppend, NeedsNoCut, PacketsFit};
 
 /// The packet of a cut has the number of the packets before it, and just the commands that were pending before
@@ -49,4 +50,10 @@ pub fn needs_no_cut()
 /// and deltas that four octets hold.
 pub fn packets_fit()
     ensures { PacketsFit }
+{}
+
+/// Where the command of each play has its numbers within their bounds, so has each that was sent or is pending.
+#[tactic(auto, using(crate::specs::CommandLaws::keeps_commands))]
+pub fn keeps_commands()
+    ensures { KeepsCommands }
 {}

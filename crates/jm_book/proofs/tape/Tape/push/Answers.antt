@@ -7,6 +7,7 @@ invariant_of-self c =
     let room = rw (← c.self.view_is) at c.requires in
     record {
       all = rw (c.push_reserved.ensures.items, plays_push_other) c.self.invariant.all;
+      within = c.self.invariant.within;
       out = c.self.invariant.out;
       room = rw c.push_reserved.ensures.items (simp length-append (omega arith));
     }

@@ -1,4 +1,6 @@
 use Rattle.std.proofs.Common.{arith, length-append}
+use Rattle.jm_cmds.specs.Command.{IsCommand}
+use Rattle.jm_cmds.specs.HistoryLaws.{AllByRecursion-append}
 use Rattle.jm_book.proofs.Weaving.{plays_push_play, woven_push_play}
 use Rattle.jm_book.proofs.tape.Tape.push_play.Goals as goal
 
@@ -7,6 +9,7 @@ invariant_of-self c =
     let room = rw (← c.self.view_is) at c.requires in
     record {
       all = rw (c.push_reserved.ensures.items, c.push_reserved-2.ensures.items, plays_push_play) (simp length-append (omega (arith, c.self.invariant.all)));
+      within = rw c.push_reserved-2.ensures.items (AllByRecursion-append (λ place. IsCommand place.command) _ _ c.self.invariant.within (c.size.ensures.command, tt));
       out = c.self.invariant.out;
       room = rw c.push_reserved.ensures.items (simp length-append (omega arith));
     }
