@@ -291,11 +291,11 @@ one_left Polys channel at checkpoint packet tick sent = elim (cases_Bool (eqb at
 
 -- ## The logs of the journal
 
-filter-flat : {X : Type 0} (p : Log → Bool) (list : X → List Log) (xs : List X) → filter p (flat_map list xs) ≡ flat_map (λ x. filter p (list x)) xs
+pub filter-flat : {X : Type 0} (p : Log → Bool) (list : X → List Log) (xs : List X) → filter p (flat_map list xs) ≡ flat_map (λ x. filter p (list x)) xs
 filter-flat p list [] = refl
 filter-flat p list (x ∷ xs) = filter-append p (list x) (flat_map list xs) ∙ ap (λ (l : List Log). filter p (list x) ++ l) (filter-flat p list xs)
 
-flat-same : {X : Type 0} (a b : X → List Log) → ((x : X) → a x ≡ b x) → (xs : List X) → flat_map a xs ≡ flat_map b xs
+pub flat-same : {X : Type 0} (a b : X → List Log) → ((x : X) → a x ≡ b x) → (xs : List X) → flat_map a xs ≡ flat_map b xs
 flat-same a b h [] = refl
 flat-same a b h (x ∷ xs) = ap (λ (l : List Log). l ++ flat_map a xs) (h x) ∙ ap (λ (l : List Log). b x ++ l) (flat-same a b h xs)
 
@@ -310,7 +310,7 @@ module _ (logs : ℕ → List Log) (k : ℕ) where
       let apart : eqb first k ≡ false = ne_eqb first k (λ e. omega (arith, e, l)) in
       rw apart (above (first + 1) n (omega (arith, l)))
 
-  among : (first n : ℕ) → first ≤ k → k < first + n → flat_map only (range_with_len first n) ≡ logs k
+  pub among : (first n : ℕ) → first ≤ k → k < first + n → flat_map only (range_with_len first n) ≡ logs k
   among first zero l u = absurd (omega (arith, l, u))
   among first (suc n) l u =
       elim (cases_Bool (eqb first k)) [

@@ -51,7 +51,7 @@ control_silent channel control log h = refl
 last_says : (channel control : ℕ) → channel < 16 → control < 128 → LastSays (λ s. control_of s channel control) (control_says channel control)
 last_says channel control l m s command is = (by_part s command is).control channel control l m
 
-control_is : (channel control : ℕ) → channel < 16 → control < 128 → IsPart channel control_groups (λ s. control_of s channel control) (control_log_says channel control)
+pub control_is : (channel control : ℕ) → channel < 16 → control < 128 → IsPart channel control_groups (λ s. control_of s channel control) (control_log_says channel control)
 control_is channel control l m = record {
   absent = ap (λ c. control_at c control) (no_channel_at channel l) ∙ ap (control_by (control_kind control)) (no_value control m) ∙ control_none (control_kind control);
   counted = λ s count. refl;

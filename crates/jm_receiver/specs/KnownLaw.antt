@@ -69,12 +69,12 @@ pub record Moves {S : Type 0} (item : SystemItem) (step : Option S → Sent → 
   pub passes : (s : Option S) (x : Sent) → moves_or_ends item x ≡ None → step s x ≡ s
   pub ends : (s : Option S) (x : Sent) → moves_or_ends item x ≡ Some None → step s x ≡ None
 
-later_none : (a b : Option (Option ℕ)) → over a b ≡ None → (a ≡ None) × (b ≡ None)
+pub later_none : (a b : Option (Option ℕ)) → over a b ≡ None → (a ≡ None) × (b ≡ None)
 later_none None None h = (refl, refl)
 later_none None (Some b) h = absurd (let f : Some b ≡ None = h in cc)
 later_none (Some a) b h = absurd (let f : Some a ≡ None = h in cc)
 
-ended_last : (a b : Option (Option ℕ)) → over a b ≡ Some None → (a ≡ Some None) ⊎ ((a ≡ None) × (b ≡ Some None))
+pub ended_last : (a b : Option (Option ℕ)) → over a b ≡ Some None → (a ≡ Some None) ⊎ ((a ≡ None) × (b ≡ Some None))
 ended_last None b h = inr (refl, h)
 ended_last (Some a) b h = inl h
 
@@ -202,7 +202,7 @@ sequencer_silent : (log : LogKind) → is_session log ≡ false → sequencer_lo
 sequencer_silent (kinds.Sequencer running downbeat position) h = absurd (let f : true ≡ false = h in cc)
 sequencer_silent log h = refl
 
-sequencer_is : IsSessionPart sequencer_of sequencer_log_says
+pub sequencer_is : IsSessionPart sequencer_of sequencer_log_says
 sequencer_is = record {
   absent = refl;
   counted = λ s count. refl;
@@ -288,7 +288,7 @@ time_silent : (log : LogKind) → is_session log ≡ false → time_log_says log
 time_silent (kinds.TimeCode complete partial backward point) h = absurd (let f : true ≡ false = h in cc)
 time_silent log h = refl
 
-time_is : IsSessionPart time_code_of time_log_says
+pub time_is : IsSessionPart time_code_of time_log_says
 time_is = record {
   absent = refl;
   counted = λ s count. refl;

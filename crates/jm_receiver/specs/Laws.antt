@@ -1,6 +1,6 @@
 -- What the laws of repair say.
 use Rattle.std.specs.Prelude.{ℕ, ◌<◌}
-use Rattle.jm_state.specs.Parts.{song_of, sequencer_of, time_code_of, program_of, control_of, wheel_of, note_of, pressure_of, poly_of}
+use Rattle.jm_state.specs.Parts.{song_of, sequencer_of, time_code_of, program_of, control_of, toggles_of, selection_of, wheel_of, note_of, pressure_of, poly_of}
 use Rattle.jm_receiver.specs.Repairs.{Repairs}
 use Rattle.jm_receiver.specs.KnownLaw.{RepairsCommands}
 
@@ -34,3 +34,11 @@ SequencerIsRepaired = RepairsCommands sequencer_of
 
 abbrev pub TimeCodeIsRepaired : Type 0
 TimeCodeIsRepaired = RepairsCommands time_code_of
+
+-- how often each channel's sustain pedal was moved
+abbrev pub TogglesAreRepaired : Type 0
+TogglesAreRepaired = (channel : ℕ) → channel < 16 → Repairs (λ s. toggles_of s channel)
+
+-- the selection of each channel: its four halves, and of which kind the last one was
+abbrev pub SelectionsAreRepaired : Type 0
+SelectionsAreRepaired = (channel : ℕ) → channel < 16 → Repairs (λ s. selection_of s channel)

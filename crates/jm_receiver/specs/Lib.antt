@@ -20,3 +20,8 @@ pub mod Laws
 pub mod KnownLaw
 pub mod ControlLaw
 pub mod ProgramLaw
+pub mod OwnLogs
+pub mod ToggleLaw
+pub mod SelectionLaw
+pub mod FreshLogs
+pub mod FreshLaw

@@ -58,7 +58,7 @@ note_silent channel note log h = refl
 last_says : (channel note : ℕ) → channel < 16 → note < 128 → LastSays (λ s. note_of s channel note) (note_says channel note)
 last_says channel note l m s command is = (by_part s command is).note channel note l m
 
-note_is : (channel note : ℕ) → channel < 16 → note < 128 → IsPart channel note_groups (λ s. note_of s channel note) (note_log_says channel note)
+pub note_is : (channel note : ℕ) → channel < 16 → note < 128 → IsPart channel note_groups (λ s. note_of s channel note) (note_log_says channel note)
 note_is channel note l m = record {
   absent = ap (λ c. value_at c.notes note) (no_channel_at channel l) ∙ no_value note m;
   counted = λ s count. refl;
@@ -115,13 +115,13 @@ notes_ended channel command = refl
 -- ## The notes' chapter
 
 -- what an event says of a note, apart where it is released and where it is struck
-abbrev releases : (note : ℕ) → NoteEvent → Bool
+abbrev pub releases : (note : ℕ) → NoteEvent → Bool
 releases note (Struck other velocity) = false
 releases note (Released other velocity) = eqb other note
 releases note Cleared = false
 releases note Other = false
 
-abbrev strikes : (note : ℕ) → NoteEvent → Option (Option ℕ)
+abbrev pub strikes : (note : ℕ) → NoteEvent → Option (Option ℕ)
 strikes note (Struck other velocity) = cond (eqb other note) (Some (sounding velocity)) None
 strikes note (Released other velocity) = None
 strikes note Cleared = None
@@ -157,7 +157,7 @@ one_released : (channel note : ℕ) (fresh : Bool) (notes : List ℕ) (n : ℕ) 
 one_released channel note fresh notes n =
     elim (cases_Bool (has_note notes n)) [ inl t ↦ rw (t, self channel) refl | inr f ↦ rw f refl ]
 
-released_list : (channel note : ℕ) (fresh : Bool) (notes : List ℕ) → note < 128 → final (log_says (note_log_says channel note)) (released_said channel fresh notes) ≡ ended (has_note notes note)
+pub released_list : (channel note : ℕ) (fresh : Bool) (notes : List ℕ) → note < 128 → final (log_says (note_log_says channel note)) (released_said channel fresh notes) ≡ ended (has_note notes note)
 unfolding released_said
 released_list channel note fresh notes m =
     let says : ℕ → Option (Option ℕ) = λ n. cond (has_note notes n) (ended (eqb n note)) None in
@@ -168,7 +168,7 @@ released_list channel note fresh notes m =
     (λ k e. ap says (sym (eqb-true note k e))) (among_notes note 0 128 (omega arith) (omega (arith, m)))
     ∙ rw (self note) refl
 
-any-filter_map : (channel note : ℕ) (places : List Sent) → has_note (released channel places) note ≡ list_any (λ place. releases note (event_at channel place)) places
+pub any-filter_map : (channel note : ℕ) (places : List Sent) → has_note (released channel places) note ≡ list_any (λ place. releases note (event_at channel place)) places
 any-filter_map channel note [] = refl
 any-filter_map channel note (x ∷ xs) = by_event (event_at channel x) (any-filter_map channel note xs)
   where
@@ -179,7 +179,7 @@ any-filter_map channel note (x ∷ xs) = by_event (event_at channel x) (any-filt
     by_event Cleared ih = ih
     by_event Other ih = ih
 
-released_heard : (channel note checkpoint packet tick : ℕ) (sent : List Sent) → note < 128 →
+pub released_heard : (channel note checkpoint packet tick : ℕ) (sent : List Sent) → note < 128 →
     final (log_says (note_log_says channel note)) (released_logs channel checkpoint packet tick sent) ≡ final (λ place. ended (releases note (event_at channel place))) (coded_notes channel checkpoint packet sent)
 released_heard channel note checkpoint packet tick sent m =
     let places = coded_notes channel checkpoint packet sent in
@@ -193,7 +193,7 @@ one_struck channel note fresh soon (Released other velocity) = refl
 one_struck channel note fresh soon Cleared = refl
 one_struck channel note fresh soon Other = refl
 
-struck_heard : (channel note checkpoint packet tick : ℕ) (sent : List Sent) →
+pub struck_heard : (channel note checkpoint packet tick : ℕ) (sent : List Sent) →
     final (log_says (note_log_says channel note)) (struck_logs channel checkpoint packet tick sent) ≡ final (λ place. strikes note (event_at channel place)) (coded_notes channel checkpoint packet sent)
 struck_heard channel note checkpoint packet tick sent =
     final-flat_map (log_says (note_log_says channel note)) (struck_said channel packet tick) (coded_notes channel checkpoint packet sent)
@@ -203,19 +203,19 @@ struck_heard channel note checkpoint packet tick sent =
 same_note : (n m note : ℕ) → eqb n note ≡ true → eqb n m ≡ true → eqb m note ≡ true
 same_note n m note h e = grind (arith, nat_tests)
 
-two_notes : (n m note : ℕ) → eqb n note ≡ true → eqb m note ≡ true → eqb n m ≡ true
+pub two_notes : (n m note : ℕ) → eqb n note ≡ true → eqb m note ≡ true → eqb n m ≡ true
 two_notes n m note h e = grind (arith, nat_tests)
 
-spoken : (b : Bool) (value : Option ℕ) → speaks (cond b (Some value) None) ≡ true → b ≡ true
+pub spoken : (b : Bool) (value : Option ℕ) → speaks (cond b (Some value) None) ≡ true → b ≡ true
 spoken true value h = refl
 spoken false value h = cc
 
-spoken_end : (b : Bool) → speaks (ended {X = ℕ} b) ≡ true → b ≡ true
+pub spoken_end : (b : Bool) → speaks (ended {X = ℕ} b) ≡ true → b ≡ true
 spoken_end true h = refl
 spoken_end false h = cc
 
 -- a note that is struck and then released isn't coded as struck
-struck_ended : (note : ℕ) (event later : NoteEvent) → speaks (strikes note event) ≡ true → speaks (ended {X = ℕ} (releases note later)) ≡ true → event_ends event later ≡ true
+pub struck_ended : (note : ℕ) (event later : NoteEvent) → speaks (strikes note event) ≡ true → speaks (ended {X = ℕ} (releases note later)) ≡ true → event_ends event later ≡ true
 struck_ended note (Struck n velocity) (Released k other) h e = two_notes n k note (spoken (eqb n note) (sounding velocity) h) (spoken_end (eqb k note) e)
 struck_ended note (Struck n velocity) (Struck k other) h e = absurd (let f : false ≡ true = e in cc)
 struck_ended note (Struck n velocity) Cleared h e = refl

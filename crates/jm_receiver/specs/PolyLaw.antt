@@ -54,7 +54,7 @@ poly_silent channel note log h = refl
 last_says : (channel note : ℕ) → channel < 16 → note < 128 → LastSays (λ s. poly_of s channel note) (poly_says channel note)
 last_says channel note l m s command is = (by_part s command is).poly channel note l m
 
-poly_is : (channel note : ℕ) → channel < 16 → note < 128 → IsPart channel poly_groups (λ s. poly_of s channel note) (poly_log_says channel note)
+pub poly_is : (channel note : ℕ) → channel < 16 → note < 128 → IsPart channel poly_groups (λ s. poly_of s channel note) (poly_log_says channel note)
 poly_is channel note l m = record {
   absent = ap (λ c. value_at c.polys note) (no_channel_at channel l) ∙ no_value note m;
   counted = λ s count. refl;

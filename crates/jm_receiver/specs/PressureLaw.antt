@@ -55,7 +55,7 @@ pressure_silent channel log h = refl
 last_says : (channel : ℕ) → channel < 16 → LastSays (λ s. pressure_of s channel) (pressure_says channel)
 last_says channel l s command is = (by_part s command is).pressure channel l
 
-pressure_is : (channel : ℕ) → channel < 16 → IsPart channel pressure_groups (λ s. pressure_of s channel) (pressure_log_says channel)
+pub pressure_is : (channel : ℕ) → channel < 16 → IsPart channel pressure_groups (λ s. pressure_of s channel) (pressure_log_says channel)
 pressure_is channel l = record {
   absent = ap (λ c. c.pressure) (no_channel_at channel l);
   counted = λ s count. refl;

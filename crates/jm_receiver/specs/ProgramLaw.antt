@@ -88,7 +88,7 @@ program_set channel l s (kinds.Pressure at value) is = (by_part s (commands.Pres
 program_set channel l s (kinds.Poly at note value) is = (by_part s (commands.PolyPressure at note value) is).program channel l
 program_set channel l s log is = refl
 
-program_is : (channel : ℕ) → channel < 16 → IsPart channel program_groups (λ s. program_of s channel) (program_log_says channel)
+pub program_is : (channel : ℕ) → channel < 16 → IsPart channel program_groups (λ s. program_of s channel) (program_log_says channel)
 program_is channel l = record {
   absent = ap (λ c. c.program) (no_channel_at channel l);
   counted = λ s count. refl;

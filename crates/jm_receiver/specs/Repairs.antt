@@ -81,7 +81,7 @@ repairs channel groups part says commands l is_part last same checkpoint next pa
 channel_self : (channel : ℕ) → eqb channel channel ≡ true
 channel_self channel = eq-eqb channel channel refl
 
-group_silent : {V : Type 0} (channel : ℕ) (groups : Group → Bool) (part : State → Option V) (says : LogKind → Option (Option V)) → IsPart channel groups part says → (group : Group) → groups group ≡ false → (logs : List Log) →
+pub group_silent : {V : Type 0} (channel : ℕ) (groups : Group → Bool) (part : State → Option V) (says : LogKind → Option (Option V)) → IsPart channel groups part says → (group : Group) → groups group ≡ false → (logs : List Log) →
     AllByRecursion (λ log. tag log.what ≡ Some (group, channel)) logs → final (log_says says) logs ≡ None
 group_silent channel groups part says is_part group none logs tagged =
     final-none (log_says says) logs

@@ -52,7 +52,7 @@ wheel_silent channel log h = refl
 last_says : (channel : ℕ) → channel < 16 → LastSays (λ s. wheel_of s channel) (wheel_says channel)
 last_says channel l s command is = (by_part s command is).wheel channel l
 
-wheel_is : (channel : ℕ) → channel < 16 → IsPart channel wheel_groups (λ s. wheel_of s channel) (wheel_log_says channel)
+pub wheel_is : (channel : ℕ) → channel < 16 → IsPart channel wheel_groups (λ s. wheel_of s channel) (wheel_log_says channel)
 wheel_is channel l = record {
   absent = ap (λ c. c.wheel) (no_channel_at channel l);
   counted = λ s count. refl;

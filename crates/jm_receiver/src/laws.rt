@@ -3,7 +3,8 @@
 //! before the later packet leave it. So it is for a receiver before its first packet, where the checkpoint is packet 0. Each
 //! law is the contract of a function that does nothing; commands stand in the order of their packets.
 
-ghost use Rattle.jm_receiver.specs.Laws.{ProgramsAreRepaired, ControlsAreRepaired, WheelsAreRepaired, NotesAreRepaired, PressuresAreRepaired, SongIsRepaired, SequencerIsRepaired, TimeCodeIsRepaired};
+ghost use Rattle.jm_receiver.specs.Laws.{ProgramsAreRepaired, ControlsAreRepaired, WheelsAreRepaired, NotesAreRepaired, PressuresAreRepaired, SongIsRepaired, SequencerIsRepaired, TimeCodeIsRepaired, TogglesAreRepaired, SelectionsAreRepaired};
+ghost use Rattle.jm_receiver.specs.FreshLaw.{FreshLogsRepair};
 
 /// The program of each channel is repaired, with the bank that it was chosen with.
 #[tactic(auto, using(crate::specs::ProgramLaw::program_repaired))]
@@ -51,4 +52,23 @@ pub fn sequencer_is_repaired()
 #[tactic(auto, using(crate::specs::KnownLaw::time_code_repaired))]
 pub fn time_code_is_repaired()
     ensures { TimeCodeIsRepaired }
+{}
+
+/// The toggles of each channel's sustain pedal are repaired: how often it was moved since Control 121 or the last reset, modulo 64.
+#[tactic(auto, using(crate::specs::ToggleLaw::toggles_repaired))]
+pub fn toggles_are_repaired()
+    ensures { TogglesAreRepaired }
+{}
+
+/// The selection of a parameter in each channel is repaired: its four halves, and of which kind the last one was.
+#[tactic(auto, using(crate::specs::SelectionLaw::selection_repaired))]
+pub fn selections_are_repaired()
+    ensures { SelectionsAreRepaired }
+{}
+
+/// Where just one packet was lost, the fresh logs of the next one's journal repair each of these parts alone, though older released
+/// notes are among them.
+#[tactic(auto, using(crate::specs::FreshLaw::fresh_repair))]
+pub fn fresh_logs_repair()
+    ensures { FreshLogsRepair }
 {}
