@@ -25,7 +25,6 @@ use Rattle.jm_state.specs.Final.{final, speaks, silent, final-append, final-flat
 use Rattle.jm_reader.specs.declared.logs.Log.{Log}
 use Rattle.jm_reader.specs.declared.logs.LogKind.{LogKind}
 use Rattle.jm_reader.specs.declared.logs.LogKind.TheVariants as kinds
-use Rattle.jm_reader.specs.Written.{AreCommands}
 use Rattle.jm_reader.specs.WrittenN.{released_said, released_log, has_note}
 use Rattle.jm_reader.specs.WrittenSystem.{system_logs}
 use Rattle.jm_reader.specs.WrittenJournal.{journal_logs, channels_logs}
@@ -49,20 +48,8 @@ use Rattle.jm_receiver.specs.NoteLaw.{note_groups, note_log_says, note_is, note_
 use Rattle.jm_receiver.specs.PressureLaw.{pressure_groups, pressure_log_says, pressure_is, pressure_repaired}
 use Rattle.jm_receiver.specs.PolyLaw.{poly_groups, poly_log_says, poly_is, poly_repaired}
 use Rattle.jm_receiver.specs.SongLaw.{song_log_says, song_is, song_repaired}
-use Rattle.jm_receiver.specs.FreshLogs.{fresh_of, kept, is_exact, places_fresh, c_fresh, group_fresh, session_fresh, channels_fresh, reset_fresh}
-
--- Repair of the state behind all packets before the last one, by the fresh logs of the journal of the packet behind that, leaves this
--- part as the state behind the last one has it, wherever the journal's checkpoint isn't later than the last one.
-abbrev pub FreshRepairs : {V : Type 0} → (State → V) → Type 0
-FreshRepairs part =
-    (checkpoint last tick : ℕ) (sent : List Sent) → InOrder packet_of sent → checkpoint ≤ last →
-    part (repaired (state_behind no_state (below packet_of last sent)) (fresh_of (journal_logs checkpoint (last + 1) tick sent))) ≡ part (state_behind no_state (below packet_of (last + 1) sent))
-
--- the same, of commands within their bounds
-abbrev pub FreshRepairsCommands : {V : Type 0} → (State → V) → Type 0
-FreshRepairsCommands part =
-    (checkpoint last tick : ℕ) (sent : List Sent) → AreCommands sent → InOrder packet_of sent → checkpoint ≤ last →
-    part (repaired (state_behind no_state (below packet_of last sent)) (fresh_of (journal_logs checkpoint (last + 1) tick sent))) ≡ part (state_behind no_state (below packet_of (last + 1) sent))
+use Rattle.jm_receiver.specs.Laws.{FreshLogsRepair}
+use Rattle.jm_receiver.specs.FreshLogs.{fresh_of, FreshRepairs, FreshRepairsCommands, kept, is_exact, places_fresh, c_fresh, group_fresh, session_fresh, channels_fresh, reset_fresh}
 
 -- ## A part of a channel
 
@@ -451,20 +438,7 @@ module _ (checkpoint last tick : ℕ) (sent : List Sent) (early : checkpoint ≤
 
 -- ## All of them
 
--- Where just one packet was lost, the fresh logs alone repair each of these parts.
-pub record FreshLogsRepair : Type 0 where
-  pub program : (channel : ℕ) → channel < 16 → FreshRepairs (λ s. program_of s channel)
-  pub control : (channel control : ℕ) → channel < 16 → control < 128 → FreshRepairs (λ s. control_of s channel control)
-  pub toggles : (channel : ℕ) → channel < 16 → FreshRepairs (λ s. toggles_of s channel)
-  pub selection : (channel : ℕ) → channel < 16 → FreshRepairs (λ s. selection_of s channel)
-  pub wheel : (channel : ℕ) → channel < 16 → FreshRepairs (λ s. wheel_of s channel)
-  pub note : (channel note : ℕ) → channel < 16 → note < 128 → FreshRepairs (λ s. note_of s channel note)
-  pub pressure : (channel : ℕ) → channel < 16 → FreshRepairs (λ s. pressure_of s channel)
-  pub poly : (channel note : ℕ) → channel < 16 → note < 128 → FreshRepairs (λ s. poly_of s channel note)
-  pub song : FreshRepairs song_of
-  pub sequencer : FreshRepairsCommands sequencer_of
-  pub time_code : FreshRepairsCommands time_code_of
-
+-- The fresh logs alone repair what they are to.
 pub fresh_repair : FreshLogsRepair
 fresh_repair = record {
   program = program_by_fresh;

@@ -1,17 +1,19 @@
 -- The fresh logs of a journal, which are of the packet before it, are those of a journal with that packet as its checkpoint. Only the
 -- released notes have older ones among them, since one bit tells of all whether they are fresh, and so have the halves of a parameter.
 use Rattle.std.proofs.Common.{◌≡◌, ℕ, ◌+◌, ◌<◌, ◌≤◌, Bool, true, false, cond, ◌||◌, eqb, leb, List, [], ◌∷◌, ◌++◌, Option, Some, None, map, refl, sym, ap, ◌∙◌, inl, inr, arith}
-use Rattle.std.specs.List.{flat_map, list_any, filter, AllByRecursion}
+use Rattle.std.specs.List.{flat_map, list_any, filter, filter_map, cons_option, AllByRecursion}
 use Rattle.std.proofs.lemmas.Bool.{cases_Bool}
 use Rattle.std.proofs.lemmas.Bool.Decides.{nat_tests}
 use Rattle.std.proofs.lemmas.List.Elements.{filter-append}
 use Rattle.std.proofs.lemmas.List.Folds.{list_any-append}
 use Rattle.jm_cmds.specs.declared.frames.TimePart.{TimePart}
 use Rattle.jm_cmds.specs.declared.history.Sent.{Sent}
+use Rattle.jm_cmds.specs.declared.param.Param.{Param}
 use Rattle.jm_cmds.specs.declared.sequencing.SequencerPart.{SequencerPart}
 use Rattle.jm_cmds.specs.Frames.{time_code_after}
-use Rattle.jm_cmds.specs.History.{standing, below, since, coded, scanned}
+use Rattle.jm_cmds.specs.History.{standing, below, since, coded, scanned, InOrder}
 use Rattle.jm_cmds.specs.HistoryLaws.{AllByRecursion-filter, AllByRecursion-standing, AllByRecursion-scanned, All-below, coded-later, filter-swap}
+use Rattle.jm_cmds.specs.Selection.{no_selection}
 use Rattle.jm_cmds.specs.Sent.{packet_of, is_fresh}
 use Rattle.jm_cmds.specs.Sequencing.{sequencer_after}
 use Rattle.ch_voice.specs.declared.events.ProgramEvent.{ProgramEvent}
@@ -28,6 +30,8 @@ use Rattle.ch_voice.specs.PressureEvent.{pressure_at, pressure_ends}
 use Rattle.ch_voice.specs.WheelEvent.{wheel_at, wheel_ends}
 use Rattle.ch_control.specs.ChapterC.{coded_controls}
 use Rattle.ch_control.specs.ControlEvent.{control_ends}
+use Rattle.ch_param.specs.ChapterM.{entered, entered_at, entered_by, event_param, session_places}
+use Rattle.ch_param.specs.Event.{Place, packet_at, event_at as entry_at, param_ends, selection_step}
 use Rattle.ch_notes.specs.declared.events.NoteEvent.{NoteEvent}
 use Rattle.ch_notes.specs.declared.events.NoteEvent.TheVariants as notes
 use Rattle.ch_notes.specs.ChapterA.{coded_presses}
@@ -42,14 +46,19 @@ use Rattle.ch_sysex.specs.declared.events.SysexEvent.{SysexEvent}
 use Rattle.ch_sysex.specs.declared.events.SysexEvent.TheVariants as messages
 use Rattle.ch_sysex.specs.ChapterX.{counted_ends, coded_counted}
 use Rattle.ch_sysex.specs.SysexEvent.{event_at as message_at, data_of, count_step}
+use Rattle.jm_state.specs.declared.state.State.{State}
+use Rattle.jm_state.specs.Parts.{no_state}
+use Rattle.jm_state.specs.ReplayLaws.{state_behind}
 use Rattle.jm_reader.specs.declared.logs.Log.{Log}
 use Rattle.jm_reader.specs.declared.logs.LogKind.{LogKind}
 use Rattle.jm_reader.specs.declared.logs.LogKind.TheVariants as kinds
+use Rattle.jm_reader.specs.Written.{AreCommands}
 use Rattle.jm_reader.specs.WrittenA.{a_said, place_said as a_place}
 use Rattle.jm_reader.specs.WrittenC.{c_said, place_said as c_place}
 use Rattle.jm_reader.specs.WrittenD.{d_said, place_said as d_place}
 use Rattle.jm_reader.specs.WrittenF.{f_said, code_said}
 use Rattle.jm_reader.specs.WrittenListed.{all_logged}
+use Rattle.jm_reader.specs.WrittenM.{m_said, entered_said}
 use Rattle.jm_reader.specs.WrittenN.{struck_said, struck_log}
 use Rattle.jm_reader.specs.WrittenP.{p_said, program_said, place_said as p_place, Bank}
 use Rattle.jm_reader.specs.WrittenQ.{q_said, position_said}
@@ -61,13 +70,26 @@ use Rattle.jm_reader.specs.WrittenSystem.{system_logs}
 use Rattle.jm_reader.specs.WrittenJournal.{journal_logs, channels_logs}
 use Rattle.jm_receiver.specs.declared.group.Group.{Group}
 use Rattle.jm_receiver.specs.declared.group.Group.TheVariants.{Programs, Params, Controls, Wheels, Released, Struck, Pressures, Polys}
-use Rattle.jm_receiver.specs.Repair.{is_reset_log, has_reset}
+use Rattle.jm_receiver.specs.Repair.{is_reset_log, has_reset, repaired}
 use Rattle.jm_receiver.specs.Chapters.{struck_logs, group_logs, is_session, AreOfChannels, channels_of_channels}
 use Rattle.jm_receiver.specs.Resets.{no_reset}
 
 -- the logs of what came in the packet before
 abbrev pub fresh_of : List Log → List Log
 fresh_of logs = filter (λ log. log.fresh) logs
+
+-- Repair of the state behind all packets before the last one, by the fresh logs of the journal of the packet behind that, leaves this
+-- part as the state behind the last one has it, wherever the journal's checkpoint isn't later than the last one.
+abbrev pub FreshRepairs : {V : Type 0} → (State → V) → Type 0
+FreshRepairs part =
+    (checkpoint last tick : ℕ) (sent : List Sent) → InOrder packet_of sent → checkpoint ≤ last →
+    part (repaired (state_behind no_state (below packet_of last sent)) (fresh_of (journal_logs checkpoint (last + 1) tick sent))) ≡ part (state_behind no_state (below packet_of (last + 1) sent))
+
+-- the same, of commands within their bounds
+abbrev pub FreshRepairsCommands : {V : Type 0} → (State → V) → Type 0
+FreshRepairsCommands part =
+    (checkpoint last tick : ℕ) (sent : List Sent) → AreCommands sent → InOrder packet_of sent → checkpoint ≤ last →
+    part (repaired (state_behind no_state (below packet_of last sent)) (fresh_of (journal_logs checkpoint (last + 1) tick sent))) ≡ part (state_behind no_state (below packet_of (last + 1) sent))
 
 -- ## Places
 
@@ -127,6 +149,16 @@ fresh_map test log h (x ∷ xs) =
       | inl t ↦ rw t (one_kept (log x).fresh (log x) rest (h x ∙ t) ∙ ap (λ (l : List Log). log x ∷ l) ih)
       | inr f ↦ rw f (one_dropped (log x).fresh (log x) rest (h x ∙ f) ∙ ih)
     ]
+
+filter-filter_map : {X Y : Type 0} (p : X → Bool) (q : Y → Bool) (f : X → Option Y) → ((x : X) → AllByRecursion (λ y. q y ≡ p x) (cons_option (f x) [])) → (xs : List X) → filter q (filter_map f xs) ≡ filter_map f (filter p xs)
+filter-filter_map p q f h [] = refl
+filter-filter_map {X = X} {Y = Y} p q f h (x ∷ xs) = by_value (f x) refl (h x) (p x) refl (filter-filter_map p q f h xs)
+  where
+    by_value : (o : Option Y) → f x ≡ o → AllByRecursion (λ y. q y ≡ p x) (cons_option o []) → (b : Bool) → p x ≡ b → filter q (filter_map f xs) ≡ filter_map f (filter p xs) → filter q (cons_option o (filter_map f xs)) ≡ filter_map f (cond b (x ∷ filter p xs) (filter p xs))
+    by_value None e own true t ih = rw e ih
+    by_value None e own false t ih = ih
+    by_value (Some y) e own true t ih = let here : q y ≡ true = own.0 ∙ t in rw (e, here) (ap (λ (l : List Y). y ∷ l) ih)
+    by_value (Some y) e own false t ih = let here : q y ≡ false = own.0 ∙ t in rw here ih
 
 all_logged_fresh : (fresh : Bool) (whats : List LogKind) → AreAll fresh (all_logged fresh whats)
 all_logged_fresh fresh [] = tt
@@ -220,6 +252,25 @@ module _ (checkpoint last : ℕ) (sent : List Sent) (l : checkpoint ≤ last) wh
       let list : Sent → List Log = λ place. all_logged (is_fresh (last + 1) place) (a_place channel place) in
       fresh_flat (is_fresh (last + 1)) list (λ x. all_logged_fresh (is_fresh (last + 1) x) (a_place channel x)) (coded_presses channel checkpoint seen)
       ∙ ap (flat_map list) (places_fresh (poly_ends channel))
+
+  latest_of : (channel : ℕ) (place : Place) → AllByRecursion (λ e. is_fresh (last + 1) e.latest ≡ is_fresh (last + 1) place.1) (cons_option (entered_at channel place) [])
+  latest_of channel place = by_param (event_param (entry_at channel place))
+    where
+      by_param : (o : Option Param) → AllByRecursion (λ e. is_fresh (last + 1) e.latest ≡ is_fresh (last + 1) place.1) (cons_option (entered_by place.1 o) [])
+      by_param None = tt
+      by_param (Some param) = (refl, tt)
+
+  -- Of parameters those are fresh that were entered in the last packet, each with all its coded halves.
+  pub m_fresh : (channel : ℕ) →
+      fresh_of (m_said channel checkpoint (last + 1) sent) ≡ map (entered_said channel checkpoint (last + 1) (session_places channel seen)) (entered channel last (session_places channel seen))
+  unfolding m_said
+  m_fresh channel =
+      let places = session_places channel seen in
+      let log = entered_said channel checkpoint (last + 1) places in
+      fresh_map (λ e. is_fresh (last + 1) e.latest) log (λ e. refl) (entered channel checkpoint places)
+      ∙ ap (map log)
+      (filter-filter_map (λ place. is_fresh (last + 1) place.1) (λ e. is_fresh (last + 1) e.latest) (entered_at channel) (latest_of channel) (coded (param_ends channel) packet_at checkpoint places)
+      ∙ ap (filter_map (entered_at channel)) (scanned_fresh (param_ends channel) (selection_step channel) no_selection))
 
   -- ## The system chapters
 

@@ -3,6 +3,7 @@ use Rattle.std.specs.Prelude.{ℕ, ◌<◌}
 use Rattle.jm_state.specs.Parts.{song_of, sequencer_of, time_code_of, program_of, control_of, toggles_of, selection_of, wheel_of, note_of, pressure_of, poly_of}
 use Rattle.jm_receiver.specs.Repairs.{Repairs}
 use Rattle.jm_receiver.specs.KnownLaw.{RepairsCommands}
+use Rattle.jm_receiver.specs.FreshLogs.{FreshRepairs, FreshRepairsCommands}
 
 -- the program of each channel, with the bank that it was chosen with
 abbrev pub ProgramsAreRepaired : Type 0
@@ -42,3 +43,17 @@ TogglesAreRepaired = (channel : ℕ) → channel < 16 → Repairs (λ s. toggles
 -- the selection of each channel: its four halves, and of which kind the last one was
 abbrev pub SelectionsAreRepaired : Type 0
 SelectionsAreRepaired = (channel : ℕ) → channel < 16 → Repairs (λ s. selection_of s channel)
+
+-- Where just one packet was lost, the fresh logs alone repair each of these parts.
+pub record FreshLogsRepair : Type 0 where
+  pub program : (channel : ℕ) → channel < 16 → FreshRepairs (λ s. program_of s channel)
+  pub control : (channel control : ℕ) → channel < 16 → control < 128 → FreshRepairs (λ s. control_of s channel control)
+  pub toggles : (channel : ℕ) → channel < 16 → FreshRepairs (λ s. toggles_of s channel)
+  pub selection : (channel : ℕ) → channel < 16 → FreshRepairs (λ s. selection_of s channel)
+  pub wheel : (channel : ℕ) → channel < 16 → FreshRepairs (λ s. wheel_of s channel)
+  pub note : (channel note : ℕ) → channel < 16 → note < 128 → FreshRepairs (λ s. note_of s channel note)
+  pub pressure : (channel : ℕ) → channel < 16 → FreshRepairs (λ s. pressure_of s channel)
+  pub poly : (channel note : ℕ) → channel < 16 → note < 128 → FreshRepairs (λ s. poly_of s channel note)
+  pub song : FreshRepairs song_of
+  pub sequencer : FreshRepairsCommands sequencer_of
+  pub time_code : FreshRepairsCommands time_code_of

@@ -10,7 +10,7 @@ use crate::repair::repair;
 use ch_notes::a;
 use ch_param::m;
 use ch_sysex::x;
-use jm_cmds::{Channel, Sent, in_order, read_command, session_history};
+use jm_cmds::{Channel, D7, Selection, Sent, in_order, read_command, session_history};
 use jm_journal::{plain_len, plain_write};
 use jm_reader::read_journal;
 use jm_state::State;
@@ -63,6 +63,31 @@ fn state_before(list: &[Sent], packet: u64) -> State {
     state
 }
 
+/// The state behind the packets before `next`, repaired by the journal of this packet, or by its fresh logs alone.
+fn repaired<R: Abort>(
+    rt: &R,
+    list: &[Sent],
+    checkpoint: u64,
+    next: u64,
+    packet: u64,
+    fresh: bool,
+    alloc: Global,
+) -> Result<State, Fail> {
+    assert!(rt; in_order(list));
+    let session = session_history(list, packet);
+    assert!(rt; keeps_limits(session, checkpoint));
+    let len = plain_len(list, checkpoint, packet, 0);
+    let mut out = Octets::with_room(len, alloc)?;
+    plain_write(list, checkpoint, packet, 0, &mut out);
+    let mut report = read_journal(out.as_slice(), alloc)?;
+    if fresh {
+        report.logs.keep_fresh();
+    }
+    let mut state = state_before(list, next);
+    repair(&mut state, report.logs.as_slice());
+    Ok(state)
+}
+
 /// Checks the repair of the state behind the packets before `next`, by the journal of this packet.
 fn check_one<R: Abort>(
     rt: &R,
@@ -72,15 +97,7 @@ fn check_one<R: Abort>(
     packet: u64,
     alloc: Global,
 ) -> Result<(), Fail> {
-    assert!(rt; in_order(list));
-    let session = session_history(list, packet);
-    assert!(rt; keeps_limits(session, checkpoint));
-    let len = plain_len(list, checkpoint, packet, 0);
-    let mut out = Octets::with_room(len, alloc)?;
-    plain_write(list, checkpoint, packet, 0, &mut out);
-    let report = read_journal(out.as_slice(), alloc)?;
-    let mut state = state_before(list, next);
-    repair(&mut state, report.logs.as_slice());
+    let state = repaired(rt, list, checkpoint, next, packet, false, alloc)?;
     assert!(rt; state.same(&state_before(list, packet)));
     Ok(())
 }
@@ -278,4 +295,120 @@ fn time_codes(rt: HostRuntime) -> Result<(), Fail> {
         ],
         alloc,
     )
+}
+
+/// The pedal up and down, moves to where it is, Control 121, another channel, and a reset: toggles are set, whatever they were.
+#[test]
+fn toggles(rt: HostRuntime) -> Result<(), Fail> {
+    let alloc = rt.alloc();
+    let list = history(
+        &[
+            &[0xb0, 0x40, 0x7f],
+            &[0xb0, 0x40, 0x40],
+            &[0xb0, 0x40, 0],
+            &[0xb0, 0x40, 0x50],
+            &[0xb0, 0x79, 0],
+            &[0xb0, 0x40, 0x60],
+            &[0xb1, 0x40, 0x60],
+            &[0xb0, 0x40, 0x3f],
+            &[0xff],
+            &[0xb0, 0x40, 0x40],
+        ],
+        alloc,
+    )?;
+    let mut packet = 0u64;
+    for count in [0u8, 1, 1, 2, 3, 0, 1, 1, 2, 0, 1] {
+        let next = packet.saturating_sub(2);
+        let first = repaired(&rt, &list, 0, 0, packet, false, alloc)?;
+        assert!(rt; first.toggles(Channel::low(0)) == count);
+        let later = repaired(&rt, &list, next, next, packet, false, alloc)?;
+        assert!(rt; later.toggles(Channel::low(0)) == count);
+        packet = packet.wrapping_add(1);
+    }
+    Ok(())
+}
+
+/// A half of a selection.
+fn half(value: u8) -> Option<D7> {
+    Some(D7::low(value))
+}
+
+/// Halves of both kinds, an entry, Control 121, another channel, and a reset.
+#[test]
+fn selections(rt: HostRuntime) -> Result<(), Fail> {
+    let alloc = rt.alloc();
+    let texts: [&[u8]; 11] = [
+        &[0xb0, 0x63, 5],
+        &[0xb0, 0x62, 6],
+        &[0xb0, 6, 9],
+        &[0xb0, 0x65, 1],
+        &[0xb1, 0x64, 8],
+        &[0xb0, 0x64, 2],
+        &[0xb0, 0x62, 7],
+        &[0xb0, 0x79, 0],
+        &[0xb0, 0x64, 3],
+        &[0xff],
+        &[0xb0, 0x63, 4],
+    ];
+    check(&rt, &texts, alloc)?;
+    let list = history(&texts, alloc)?;
+    let both = repaired(&rt, &list, 1, 1, 7, false, alloc)?;
+    let four = Selection {
+        nrpn: true,
+        rpn_high: half(1),
+        rpn_low: half(2),
+        nrpn_high: half(5),
+        nrpn_low: half(7),
+    };
+    assert!(rt; both.selection(Channel::low(0)) == Some(four));
+    let dropped = repaired(&rt, &list, 1, 1, 8, false, alloc)?;
+    assert!(rt; dropped.selection(Channel::low(0)) == None);
+    let one = repaired(&rt, &list, 4, 4, 9, false, alloc)?;
+    let low = Selection {
+        nrpn: false,
+        rpn_high: None,
+        rpn_low: half(3),
+        nrpn_high: None,
+        nrpn_low: None,
+    };
+    assert!(rt; one.selection(Channel::low(0)) == Some(low));
+    Ok(())
+}
+
+/// One lost packet of each kind, by the fresh logs alone; an older released note is among them. After two lost packets they don't
+/// repair, nor for a first packet.
+#[test]
+fn fresh_logs(rt: HostRuntime) -> Result<(), Fail> {
+    let alloc = rt.alloc();
+    let list = history(
+        &[
+            &[0x90, 0x3c, 0x64],
+            &[0x80, 0x3c, 0x40],
+            &[0x90, 0x3e, 0x50],
+            &[0x80, 0x3e, 0x40],
+            &[0x90, 0x3c, 0x63],
+            &[0xb0, 0, 5],
+            &[0xc0, 2],
+            &[0xe0, 1, 0x40],
+            &[0xb0, 0x40, 0x7f],
+            &[0xd0, 0x20],
+            &[0xa0, 0x3c, 0x21],
+            &[0xb0, 0x62, 6],
+            &[0xf3, 1],
+            &[0xfa],
+            &[0xf1, 1],
+            &[0xb0, 0x7b, 0],
+            &[0xff],
+        ],
+        alloc,
+    )?;
+    for last in 0..17u64 {
+        let state = repaired(&rt, &list, 0, last, last + 1, true, alloc)?;
+        assert!(rt; state.same(&state_before(&list, last + 1)));
+    }
+    let two_lost = repaired(&rt, &list, 0, 3, 5, true, alloc)?;
+    assert!(rt; two_lost.note(Channel::low(0), D7::low(0x3e)) == Some(D7::low(0x50)));
+    let first = repaired(&rt, &list, 0, 0, 8, true, alloc)?;
+    assert!(rt; first.program(Channel::low(0)) == None);
+    Ok(())
 }

@@ -3,8 +3,7 @@
 //! before the later packet leave it. So it is for a receiver before its first packet, where the checkpoint is packet 0. Each
 //! law is the contract of a function that does nothing; commands stand in the order of their packets.
 
-ghost use Rattle.jm_receiver.specs.Laws.{ProgramsAreRepaired, ControlsAreRepaired, WheelsAreRepaired, NotesAreRepaired, PressuresAreRepaired, SongIsRepaired, SequencerIsRepaired, TimeCodeIsRepaired, TogglesAreRepaired, SelectionsAreRepaired};
-ghost use Rattle.jm_receiver.specs.FreshLaw.{FreshLogsRepair};
+ghost use Rattle.jm_receiver.specs.Laws.{ProgramsAreRepaired, ControlsAreRepaired, WheelsAreRepaired, NotesAreRepaired, PressuresAreRepaired, SongIsRepaired, SequencerIsRepaired, TimeCodeIsRepaired, TogglesAreRepaired, SelectionsAreRepaired, FreshLogsRepair};
 
 /// The program of each channel is repaired, with the bank that it was chosen with.
 #[tactic(auto, using(crate::specs::ProgramLaw::program_repaired))]
