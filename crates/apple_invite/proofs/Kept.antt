@@ -1,9 +1,8 @@
 -- A call changes nothing but how far the invitation has come, and invites for the caller alone.
-use Rattle.std.proofs.Common.{◌≡◌, ℕ, ◌+◌, Bool, true, false, cond, eqb, ltb, List, [], ◌∷◌, Option, Some, None, refl, ◌&&◌}
+use Rattle.std.proofs.Common.{◌≡◌, ℕ, ◌+◌, Bool, true, false, cond, eqb, ltb, [], ◌∷◌, Option, Some, None, refl, ◌&&◌}
 use Rattle.std.specs.Prelude.{slice_index, ⊤}
-use Rattle.jm_edge.specs.declared.Addr.{Addr}
 use Rattle.apple_msg.specs.declared.message.Message.{Message}
-use Rattle.apple_msg.specs.declared.message.Message.TheVariants.{Invite, Accept, Reject, Bye, Clock, Feedback, RateLimit}
+use Rattle.apple_msg.specs.declared.message.Message.TheVariants.{Invite, Accept, Reject, Bye, Clock}
 use Rattle.apple_session.specs.declared.answer.PortKind.{PortKind}
 use Rattle.apple_session.specs.declared.answer.PortKind.TheVariants.{Ctl, Rtp}
 use Rattle.apple_invite.specs.declared.dialed.DialAct.{DialAct}
@@ -13,7 +12,7 @@ use Rattle.apple_invite.specs.declared.dialed.EndCause.TheVariants as cause
 use Rattle.apple_invite.specs.declared.stage.Stage.{Stage}
 use Rattle.apple_invite.specs.declared.stage.Stage.TheVariants.{Fresh, AskCtl, AskRtp, Open, Closed}
 use Rattle.apple_invite.specs.Caller.{Caller, address_of}
-use Rattle.apple_invite.specs.Machine.{Outcome, at, unmoved, ignored, ended, waits, on_time, on_message, on_feedback, on_close, asks_control, asks_data, asks_clock, asked_control, asked_data, is_asked, clocked, in_session, heard, is_addr, Call, ticks, hears, reports, closes, step}
+use Rattle.apple_invite.specs.Machine.{Outcome, at, unmoved, ended, waits, on_time, on_feedback, on_close, asks_control, asks_data, asks_clock, asked_control, asked_data, is_asked, clocked, in_session, heard, is_addr, Call, ticks, hears, reports, closes, step}
 
 -- an invitation is of this SSRC and this token
 abbrev pub IsOwn : (ssrc token : ℕ) → PortKind × Message → Type 0

@@ -1,15 +1,14 @@
 -- An open inviter was held by its host, along any run that may come.
-use Rattle.std.proofs.Common.{◌≡◌, ℕ, ◌<◌, Bool, true, false, cond, List, [], ◌∷◌, ◌++◌, Option, Some, None, refl, sym, ap, subst, ◌∙◌, append_assoc, arith}
-use Rattle.std.specs.Prelude.{⊤, fold, All, Contains, IfSome}
+use Rattle.std.proofs.Common.{◌≡◌, ℕ, Bool, true, false, cond, List, [], ◌∷◌, ◌++◌, Option, Some, None, refl, sym, ap, subst, ◌∙◌, append_assoc, arith}
+use Rattle.std.specs.Prelude.{⊤, All, IfSome}
 use Rattle.std.proofs.lemmas.List.{append-nil}
 use Rattle.std.proofs.lemmas.List.Elements.{All-push, All-contains}
 use Rattle.std.proofs.lemmas.List.Sums.{fold-append}
 use Rattle.jm_edge.specs.declared.Addr.{Addr}
 use Rattle.apple_msg.specs.declared.message.Message.{Message}
-use Rattle.apple_msg.specs.declared.message.Message.TheVariants.{Invite, Accept, Reject, Bye, Clock, Feedback, RateLimit}
+use Rattle.apple_msg.specs.declared.message.Message.TheVariants.{Invite, Accept}
 use Rattle.apple_session.specs.declared.answer.PortKind.{PortKind}
-use Rattle.apple_session.specs.declared.answer.PortKind.TheVariants.{Ctl, Rtp}
-use Rattle.apple_session.specs.Host.{Host}
+use Rattle.apple_session.specs.declared.answer.PortKind.TheVariants.{Rtp}
 use Rattle.apple_session.specs.Peers.{peer_of}
 use Rattle.apple_session.specs.Machine as machine
 use Rattle.apple_session.specs.AnswerLaws.{ok_is_of_listed}
@@ -17,7 +16,7 @@ use Rattle.apple_invite.specs.declared.dialed.Phase.TheVariants as phase
 use Rattle.apple_invite.specs.declared.stage.Stage.{Stage}
 use Rattle.apple_invite.specs.declared.stage.Stage.TheVariants.{Fresh, AskCtl, AskRtp, Open, Closed}
 use Rattle.apple_invite.specs.Caller.{Caller, address_of, phase_of, fresh}
-use Rattle.apple_invite.specs.Machine.{Call, ticks, hears, reports, closes, step}
+use Rattle.apple_invite.specs.Machine.{Call, hears, step}
 use Rattle.apple_invite.specs.World.{World, begins, Event, dials, reaches, tells, drops, is_ours, posted, through, after_event, run, IsHeard, IsSent, IsNoOk, MayCome, IsAllowed, IsHeld, WasHeld}
 use Rattle.apple_invite.specs.Laws.{OpenWasHeld}
 use Rattle.apple_invite.proofs.Stages.{stage_by}

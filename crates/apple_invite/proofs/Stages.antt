@@ -5,7 +5,7 @@ use Rattle.std.proofs.lemmas.Bool.{eqb-true, eqb-false}
 use Rattle.std.specs.Cmp.Derive.{both_true}
 use Rattle.jm_edge.specs.declared.Addr.{Addr}
 use Rattle.apple_msg.specs.declared.message.Message.{Message}
-use Rattle.apple_msg.specs.declared.message.Message.TheVariants.{Invite, Accept, Reject, Bye, Clock, Feedback, RateLimit}
+use Rattle.apple_msg.specs.declared.message.Message.TheVariants.{Accept, Reject, Bye, Clock}
 use Rattle.apple_session.specs.declared.answer.PortKind.{PortKind}
 use Rattle.apple_session.specs.declared.answer.PortKind.TheVariants.{Ctl, Rtp}
 use Rattle.apple_invite.specs.declared.dialed.DialAct.TheVariants.{Plain, Opened}
@@ -15,7 +15,7 @@ use Rattle.apple_invite.specs.declared.stage.Stage.{Stage}
 use Rattle.apple_invite.specs.declared.stage.Stage.TheVariants.{Fresh, AskCtl, AskRtp, Open, Closed}
 use Rattle.apple_invite.specs.Caller.{Caller, address_of}
 use Rattle.apple_invite.specs.Machine.{Outcome, unmoved, ignored, ended, waits, on_message, asks_control, asks_data, asks_clock, asked_control, asked_data, is_asked, clocked, in_session, heard, is_addr, Call, ticks, hears, reports, closes, step}
-use Rattle.apple_invite.specs.Calls.{IsBye, Ends}
+use Rattle.apple_invite.specs.Calls.{Ends}
 
 -- ---- addresses
 

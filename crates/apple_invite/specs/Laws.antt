@@ -8,7 +8,7 @@ use Rattle.apple_invite.specs.declared.stage.Stage.TheVariants as stage
 use Rattle.apple_invite.specs.Caller.{fresh, phase_of}
 use Rattle.apple_invite.specs.Machine.{Call}
 use Rattle.apple_invite.specs.Calls.{after, WasOpened}
-use Rattle.apple_invite.specs.World.{World, begins, Event, run, IsAllowed, WasHeld}
+use Rattle.apple_invite.specs.World.{begins, Event, run, IsAllowed, WasHeld}
 
 -- An invitation is open with a host only where its control port and then its data port said OK, and no end came since.
 -- One that opened at the first OK, or at one of a stranger, another token or another SSRC, would not keep this.

@@ -2,8 +2,7 @@
 use Rattle.std.specs.Prelude.{◌≡◌, ℕ, ◌+◌, Bool, false, List, [], ◌∷◌, slice_index, Option, Some, None, nat_lt, ◌==◌, ◌&&◌, if◌then◌else◌}
 use Rattle.jm_edge.specs.declared.Addr.{Addr}
 use Rattle.apple_msg.specs.declared.message.Message.{Message}
-use Rattle.apple_msg.specs.declared.message.Message.TheVariants as message
-use Rattle.apple_msg.specs.declared.message.Message.TheVariants.{Invite, Accept, Reject, Bye, Clock, Feedback, RateLimit}
+use Rattle.apple_msg.specs.declared.message.Message.TheVariants.{Invite, Accept, Reject, Bye, Clock, Feedback}
 use Rattle.apple_session.specs.declared.answer.PortKind.{PortKind}
 use Rattle.apple_session.specs.declared.answer.PortKind.TheVariants.{Ctl, Rtp}
 use Rattle.apple_session.specs.Machine.{offset}
