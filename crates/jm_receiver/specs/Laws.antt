@@ -1,9 +1,18 @@
 -- What the laws of repair say.
-use Rattle.std.specs.Prelude.{ℕ, ◌<◌}
-use Rattle.jm_state.specs.Parts.{song_of, sequencer_of, time_code_of, program_of, control_of, toggles_of, selection_of, wheel_of, note_of, pressure_of, poly_of}
+use Rattle.std.specs.Prelude.{◌≡◌, ℕ, ◌<◌, Bool, List, None, Ok}
+use Rattle.jm_state.specs.declared.state.State.{State}
+use Rattle.jm_state.specs.Parts.{no_state, song_of, sequencer_of, time_code_of, program_of, control_of, toggles_of, selection_of, param_of, wheel_of, note_of, pressure_of, poly_of}
+use Rattle.jm_reader.specs.declared.logs.Log.{Log}
+use Rattle.jm_receiver.specs.declared.receiver.Took.{Took}
+use Rattle.jm_receiver.specs.Receiver.{Received}
+use Rattle.jm_receiver.specs.Accept.{accepted}
+use Rattle.jm_receiver.specs.Repair.{repaired}
 use Rattle.jm_receiver.specs.Repairs.{Repairs}
 use Rattle.jm_receiver.specs.KnownLaw.{RepairsCommands}
 use Rattle.jm_receiver.specs.FreshLogs.{FreshRepairs, FreshRepairsCommands}
+use Rattle.jm_receiver.specs.MessageLaw.{RepairsMessages}
+use Rattle.jm_receiver.specs.ParamLaw.{RepairsFew}
+use Rattle.jm_receiver.specs.Whole.{IsWhole, IsReceived}
 
 -- the program of each channel, with the bank that it was chosen with
 abbrev pub ProgramsAreRepaired : Type 0
@@ -57,3 +66,17 @@ pub record FreshLogsRepair : Type 0 where
   pub song : FreshRepairs song_of
   pub sequencer : FreshRepairsCommands sequencer_of
   pub time_code : FreshRepairsCommands time_code_of
+
+-- the number of System Exclusive messages since the last Reset State command, where a journal has at most 128 of their logs
+abbrev pub MessagesAreRepaired : Type 0
+MessagesAreRepaired = RepairsMessages
+
+-- both halves of each parameter of a channel, where at most 16 different ones were entered in it since the last Reset State command
+abbrev pub ParametersAreRepaired : Type 0
+ParametersAreRepaired = (channel : ℕ) (nrpn : Bool) (high low : ℕ) → channel < 16 → RepairsFew channel (λ s. param_of s channel nrpn high low)
+
+-- A receiver is whole as it begins, each packet that it takes leaves it so, and so does repair by any logs.
+pub record ReceiversStayWhole : Type 0 where
+  pub begins : (ssrc : ℕ) → IsReceived (record { ssrc = ssrc; last = None; state = no_state })
+  pub takes : (r : Received) (octets : List ℕ) (after : Received) (took : Took) → IsReceived r → accepted r octets ≡ Ok (after, took) → IsReceived after
+  pub repairs : (s : State) (logs : List Log) → IsWhole s → IsWhole (repaired s logs)

@@ -25,3 +25,11 @@ pub mod ToggleLaw
 pub mod SelectionLaw
 pub mod FreshLogs
 pub mod FreshLaw
+pub mod MessageLaw
+pub mod ParamKeys
+pub mod ParamPlaces
+pub mod ParamLogs
+pub mod ParamLaw
+pub mod Whole
+pub mod Congruence
+pub mod Agreement

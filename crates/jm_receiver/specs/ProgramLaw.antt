@@ -318,7 +318,7 @@ both false b h = cc
 
 -- ## Places with the bank before each
 
-any-since_placed : {S X : Type 0} (step : S → X → S) (at : X → ℕ) (checkpoint : ℕ) (test : X → Bool) (s : S) (xs : List X) →
+pub any-since_placed : {S X : Type 0} (step : S → X → S) (at : X → ℕ) (checkpoint : ℕ) (test : X → Bool) (s : S) (xs : List X) →
     list_any (λ p. test p.1) (since (λ p. at p.1) checkpoint (scanned step s xs)) ≡ list_any test (since at checkpoint xs)
 any-since_placed step at checkpoint test s [] = refl
 any-since_placed step at checkpoint test s (x ∷ xs) =
@@ -327,7 +327,7 @@ any-since_placed step at checkpoint test s (x ∷ xs) =
       | inr f ↦ rw f (any-since_placed step at checkpoint test (step s x) xs)
     ]
 
-below-scanned : {S X : Type 0} (step : S → X → S) (at : X → ℕ) (packet : ℕ) (s : S) (xs : List X) → InOrder at xs → below (λ p. at p.1) packet (scanned step s xs) ≡ scanned step s (below at packet xs)
+pub below-scanned : {S X : Type 0} (step : S → X → S) (at : X → ℕ) (packet : ℕ) (s : S) (xs : List X) → InOrder at xs → below (λ p. at p.1) packet (scanned step s xs) ≡ scanned step s (below at packet xs)
 below-scanned step at packet s [] o = refl
 below-scanned step at packet s (x ∷ xs) o =
     elim (cases_Bool (ltb (at x) packet)) [

@@ -4,6 +4,7 @@
 //! law is the contract of a function that does nothing; commands stand in the order of their packets.
 
 ghost use Rattle.jm_receiver.specs.Laws.{ProgramsAreRepaired, ControlsAreRepaired, WheelsAreRepaired, NotesAreRepaired, PressuresAreRepaired, SongIsRepaired, SequencerIsRepaired, TimeCodeIsRepaired, TogglesAreRepaired, SelectionsAreRepaired, FreshLogsRepair};
+ghost use Rattle.jm_receiver.specs.Laws.{MessagesAreRepaired, ParametersAreRepaired, ReceiversStayWhole};
 
 /// The program of each channel is repaired, with the bank that it was chosen with.
 #[tactic(auto, using(crate::specs::ProgramLaw::program_repaired))]
@@ -70,4 +71,24 @@ pub fn selections_are_repaired()
 #[tactic(auto, using(crate::specs::FreshLaw::fresh_repair))]
 pub fn fresh_logs_repair()
     ensures { FreshLogsRepair }
+{}
+
+/// The number of System Exclusive messages since the last Reset State command is repaired, modulo 256, where the journal has at most
+/// 128 of their logs.
+#[tactic(auto, using(crate::specs::MessageLaw::number_of_messages_repaired))]
+pub fn messages_are_repaired()
+    ensures { MessagesAreRepaired }
+{}
+
+/// The parameters of a channel are repaired, both halves of each, where at most 16 different ones were entered in it since the last
+/// Reset State command before the journal's packet. In whatever order they were entered, none of so few is pushed out.
+#[tactic(auto, using(crate::specs::ParamLaw::param_repaired))]
+pub fn parameters_are_repaired()
+    ensures { ParametersAreRepaired }
+{}
+
+/// The state of a receiver is whole: the parameters that were entered in a channel are different ones, at most 16, each with a half,
+/// and counts are in their ranges. All parts are absent before it has taken a packet.
+pub fn receivers_stay_whole()
+    ensures { ReceiversStayWhole }
 {}
