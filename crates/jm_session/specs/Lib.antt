@@ -1,0 +1,4 @@
+pub mod Packets
+pub mod PacketLaws
+pub mod Premises
+pub mod PremiseLaws

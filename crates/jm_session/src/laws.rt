@@ -1,0 +1,60 @@
+//! What holds of sessions where their packets are received, over the definitions of sender and receiver. The steps are any
+//! legal ones, each play of which brings a command with its numbers within their bounds: so are those of every book, as
+//! the clauses of `Book::steps` say. Each law is the contract of a function that does nothing.
+
+ghost use Rattle.jm_session.specs.Packets.{CheckpointsAreTold, PacketsAreRead};
+ghost use Rattle.jm_session.specs.Premises.{SentStays, SessionsAreRepaired, SessionsMeetPremises};
+
+use jm_packet::laws::headers_read_back;
+use jm_receiver::laws::{
+    controls_are_repaired, notes_are_repaired, pressures_are_repaired, programs_are_repaired,
+    sequencer_is_repaired, song_is_repaired, time_code_is_repaired, wheels_are_repaired,
+};
+use jm_section::laws::sections_read_back;
+
+/// The packet of a cut is read as its header, with the low 16 bits of its number, the low 32 of its tick and the stream's
+/// SSRC; its commands, each with the ticks since the one before it; and, from packet 1 on, its journal: the low 16 bits
+/// of the checkpoint, and the logs of what it codes of the sent commands. Packet 0 has no journal. So a receiver of this
+/// stream finds just that in it.
+pub fn packets_are_read()
+    ensures { PacketsAreRead }
+{
+    headers_read_back();
+    sections_read_back();
+}
+
+/// Where a cut is taken, its packet's checkpoint is the greatest number up to the packet's own that has the low 16 bits that
+/// are read.
+#[tactic(auto, using(crate::specs::PacketLaws::checkpoints_told))]
+pub fn checkpoints_are_told()
+    ensures { CheckpointsAreTold }
+{}
+
+/// The sent commands stand in the order of their packets, are within their bounds, and are all of packets before the next
+/// one; what its journal codes keeps the limits; and the checkpoint passes no joined participant's mark.
+#[tactic(auto, using(crate::specs::PremiseLaws::premises_met))]
+pub fn sessions_meet_premises()
+    ensures { SessionsMeetPremises }
+{}
+
+/// What was sent in the packets before one stays as it is, whatever steps come.
+#[tactic(auto, using(crate::specs::PremiseLaws::sent_stays))]
+pub fn sent_stays()
+    ensures { SentStays }
+{}
+
+/// Where a state that has all packets before one is repaired by the journal of the packet that is cut next, and the
+/// session's checkpoint isn't later than the first packet that the state lacks, these parts of it are as all sent commands
+/// leave them: programs with their banks, controls, wheels, notes, pressures, the song, its position and the time code.
+pub fn sessions_are_repaired()
+    ensures { SessionsAreRepaired }
+{
+    programs_are_repaired();
+    controls_are_repaired();
+    wheels_are_repaired();
+    notes_are_repaired();
+    pressures_are_repaired();
+    song_is_repaired();
+    sequencer_is_repaired();
+    time_code_is_repaired();
+}
