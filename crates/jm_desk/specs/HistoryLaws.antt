@@ -55,6 +55,10 @@ stands_after first old new turns by call came s is t =
       legal = answers_push first.book.config [] turns (made by (turned call came)) s.legal (λ _. answer);
     }
 
+-- the book made room, and is else as it was
+pub stands_kept : (first old new : Held) (turns : List (Made DeskTurn)) → StandsFor first old turns → new.book.config ≡ old.book.config → new.book.steps ≡ old.book.steps → StandsFor first new turns
+stands_kept first old new turns s config steps = record { config = config ∙ s.config; steps = steps ∙ s.steps; legal = s.legal }
+
 -- there was no memory, and the book is as it was
 pub stands_still : (first old new : Held) (turns : List (Made DeskTurn)) (by : ℕ) (call : Step) → StandsFor first old turns → new.book.config ≡ old.book.config → new.book.steps ≡ old.book.steps → StandsFor first new (turns ++ made by (turned call outcome.NoMemory) ∷ [])
 stands_still first old new turns by call s config steps =

@@ -3,7 +3,8 @@ use Rattle.std.specs.Prelude.{ℕ, ◌≡◌, ◌%◌, Bool, false, List, length
 use Rattle.atomic_table.specs.Seated.{TableId}
 use Rattle.jm_turn.specs.declared.view.Made.{Made}
 use Rattle.jm_turn.specs.Known.{Known}
-use Rattle.jm_turn.specs.Turns.{Follows}
+use Rattle.jm_turn.specs.declared.view.View.{View}
+use Rattle.jm_turn.specs.Turns.{places, Follows}
 use Rattle.jm_turn.specs.Views.{drew, saw, took, gave}
 use Rattle.jm_book.specs.declared.steps.Config.{Config}
 use Rattle.jm_book.specs.declared.steps.Step.{Step}
@@ -34,6 +35,10 @@ pub record IsOf (desk : Shared) (pass : PassView) : Type 0 where
   pub table : pass.table ≡ desk.table
   pub first : pass.view.first ≡ Some desk.first
 
+-- its own places are just those of the turns of its number
+abbrev pub OwnsPlaces : View Held DeskTurn → Type 0
+OwnsPlaces v = v.mine ≡ places v.number 0 v.seen
+
 -- what came of a call, by what it gave
 abbrev pub outcome_of : {A E : Type 0} → (A → Outcome) → Result (Turned A) E → Outcome
 outcome_of came (Ok turn) = came turn.answer
@@ -56,6 +61,7 @@ pub record MakesTurn (desk : Shared) (old new : PassView) (call : Step) (came : 
   pub made : new ≡ record old { view = gave (turned call came) (saw (before_last new.view.seen) old.view) }
   -- the outcome is the answer after the steps taken before, unless there was no memory
   pub answer : IsAnswer (config_of desk) (steps_before new.view.seen) (turned call came)
+  pub own : OwnsPlaces new.view
   pub legal : IsHistory (config_of desk) new.view.seen
 
 -- the place of the last turn that was seen, as far as 64 bits tell it
@@ -66,6 +72,7 @@ last_place pass = length (before_last pass.view.seen) % 18446744073709551616
 pub record SeesMore (desk : Shared) (old new : PassView) : Type 0 where
   pub more : Follows old.view.number old.view.seen new.view.seen
   pub same : new ≡ record old { view = saw new.view.seen old.view }
+  pub own : OwnsPlaces new.view
   pub legal : IsHistory (config_of desk) new.view.seen
 
 -- The pass's turn has come, with this book.
@@ -73,3 +80,4 @@ pub record HoldsTurn (desk : Shared) (old new : PassView) (held : Held) : Type 0
   pub more : Follows old.view.number old.view.seen new.view.seen
   pub holds : (ticket : ℕ) × (new ≡ record old { view = took new.view.seen (drew ticket old.view) })
   pub stands : StandsFor desk.first held new.view.seen
+  pub own : OwnsPlaces new.view

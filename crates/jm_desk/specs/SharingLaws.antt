@@ -1,7 +1,8 @@
 -- What a pass has seen after a call, put together from the parts of the call.
-use Rattle.std.proofs.Common.{◌≡◌, ℕ, List, [], ◌∷◌, ◌++◌, Some, refl, sym, ap, ◌∙◌, subst}
+use Rattle.std.proofs.Common.{◌≡◌, ℕ, List, [], ◌∷◌, ◌++◌, length, refl, sym, ap, ◌∙◌, subst}
 use Rattle.jm_turn.specs.declared.view.Made.{Made}
-use Rattle.jm_turn.specs.Turns.{made, Follows}
+use Rattle.jm_turn.specs.declared.view.View.{View}
+use Rattle.jm_turn.specs.Turns.{made, places, Follows}
 use Rattle.jm_turn.specs.Views.{drew, saw, took, gave}
 use Rattle.jm_turn.specs.Steps.{since, Sees}
 use Rattle.jm_book.specs.declared.steps.Step.{Step}
@@ -11,18 +12,12 @@ use Rattle.jm_desk.specs.declared.held.Held.{Held}
 use Rattle.jm_desk.specs.History.{turned, answer_to, is_taken, taken, IsAnswer, IsHistory, StandsFor, before_last, steps_before}
 use Rattle.jm_desk.specs.HistoryLaws.{before_last-push, answers_pop, stands_after}
 use Rattle.jm_book.specs.Book.{Takes}
-use Rattle.jm_desk.specs.OwnTurns.{turns_by, turns_by-push, turns_by-follows}
-use Rattle.jm_desk.specs.Sharing.{Shared, PassView, IsOf, config_of, MakesTurn, HoldsTurn}
+use Rattle.jm_desk.specs.OwnTurns.{turns_by, turns_by-push, turns_by-follows, places-own}
+use Rattle.jm_desk.specs.Sharing.{Shared, PassView, IsOf, OwnsPlaces, config_of, MakesTurn, HoldsTurn}
 
 -- the view of a pass of the desk is from the desk's first book
 pub since_first : (desk : Shared) (pass : PassView) (now : Held) (turns : List (Made DeskTurn)) → IsOf desk pass → since StandsFor pass.view.first now turns → StandsFor desk.first now turns
 since_first desk pass now turns own s = subst (λ first. since StandsFor first now turns) own.first s
-
-pub first_since : (desk : Shared) (pass : PassView) (now : Held) (turns : List (Made DeskTurn)) → IsOf desk pass → StandsFor desk.first now turns → since StandsFor pass.view.first now turns
-first_since desk pass now turns own s = subst (λ first. since StandsFor first now turns) (sym own.first) s
-
-pub seen_legal : (desk : Shared) (pass : PassView) (seen : List (Made DeskTurn)) → IsOf desk pass → Sees StandsFor pass.view seen → IsHistory (config_of desk) seen
-seen_legal desk pass seen own s = (since_first desk pass s.legal.0 seen own s.legal.1).legal
 
 -- what was seen before a turn that was given back
 pub seen_before : (mid new : PassView) (turn : DeskTurn) → new ≡ record mid { view = gave turn mid.view } → before_last new.view.seen ≡ mid.view.seen
@@ -38,14 +33,16 @@ makes_turn desk old mid new held now call came h s e =
       made = e ∙ (ap (λ (m : PassView). record m { view = gave turn m.view }) h.holds.1 ∙ ap (λ l. record old { view = gave turn (saw l old.view) }) (sym before));
       answer = subst (λ l. IsAnswer (config_of desk) (taken l) turn) (sym before) (answers_pop (config_of desk) [] mid.view.seen (made mid.view.number turn) s.legal).1;
       legal = subst (IsHistory (config_of desk)) (sym seen) s.legal;
+      own = subst (λ (p : PassView). OwnsPlaces p.view) (sym e) (ap (λ l. l ++ length mid.view.seen ∷ []) h.own ∙ sym (places-own mid.view.number mid.view.seen turn));
     }
 
 -- a pass whose turn has come, from what the taking of a turn tells
-pub turn_taken : (desk : Shared) (old new : PassView) (held : Held) → IsOf desk old → new.table ≡ old.table → new.seat ≡ old.seat → (ticket : ℕ) → new.view ≡ took new.view.seen (drew ticket old.view) → Sees StandsFor old.view new.view.seen → since StandsFor old.view.first held new.view.seen → HoldsTurn desk old new held
-turn_taken desk old new held own table seat ticket view sees value = record {
+pub turn_taken : (desk : Shared) (old new : PassView) (held : Held) → new.table ≡ old.table → new.seat ≡ old.seat → (ticket : ℕ) → new.view ≡ took new.view.seen (drew ticket old.view) → Sees StandsFor old.view new.view.seen → StandsFor desk.first held new.view.seen → HoldsTurn desk old new held
+turn_taken desk old new held table seat ticket view sees stands = record {
   more = sees.more;
   holds = (ticket, λ i. record { table = table i; seat = seat i; view = view i });
-  stands = since_first desk old held new.view.seen own value;
+  stands = stands;
+  own = ap (λ (v : View Held DeskTurn). v.mine) view ∙ (sees.own ∙ ap (λ (k : ℕ). places k 0 new.view.seen) (sym (ap (λ (v : View Held DeskTurn). v.number) view)));
 }
 
 -- the book answered the call: it stands for the turns, with this one

@@ -1,7 +1,7 @@
 //! What holds of every history of turns, over the definitions that this crate's contracts cite. Each law is the
 //! contract of a function that does nothing.
 
-ghost use Rattle.jm_desk.specs.Laws.{StepsAreLegal, GrowsByAnswers, AddsOwnTurn, LearnsNoOwnTurn};
+ghost use Rattle.jm_desk.specs.Laws.{StepsAreLegal, GrowsByAnswers, AddsOwnTurn, LearnsNoOwnTurn, KeepsJoinedTurns};
 
 /// The steps that were taken in a legal history are a legal list of steps.
 pub fn steps_are_legal()
@@ -22,4 +22,10 @@ pub fn adds_own_turn()
 /// Turns of others add none to those of a pass.
 pub fn learns_no_own_turn()
     ensures { LearnsNoOwnTurn }
+{}
+
+/// The turns that a joined pass made in the whole history, when the desk is closed, are those that it had seen when it
+/// was joined.
+pub fn keeps_joined_turns()
+    ensures { KeepsJoinedTurns }
 {}

@@ -5,7 +5,7 @@ ghost use Rattle.jm_turn.specs.declared.view.Kind.TheVariants.{Opening, Split};
 ghost use Rattle.jm_turn.specs.Turns.{Begins, Follows};
 ghost use Rattle.jm_turn.specs.Views.{parted, part_of, joined, learned, saw};
 ghost use Rattle.jm_desk.specs.History.{IsHistory};
-ghost use Rattle.jm_desk.specs.Sharing.{IsOf, config_of};
+ghost use Rattle.jm_desk.specs.Sharing.{IsOf, OwnsPlaces, config_of};
 
 use crate::desk::Desk;
 use crate::held::Held;
@@ -59,6 +59,7 @@ impl Pass {
         ensures seen { Follows self.old.view.number self.old.view.seen self.new.view.seen }
         ensures told { Begins other.old.view.seen self.new.view.seen }
         ensures legal { IsHistory (config_of desk.now) self.new.view.seen }
+        ensures places { OwnsPlaces self.new.view }
     {
         self.pass.meet(&desk.turn, &mut other.pass);
     }
@@ -74,6 +75,7 @@ impl Pass {
         ensures seen { Follows self.old.view.number self.old.view.seen self.new.view.seen }
         ensures told { Begins other.view.seen self.new.view.seen }
         ensures legal { IsHistory (config_of desk.now) self.new.view.seen }
+        ensures places { OwnsPlaces self.new.view }
     {
         let Pass { pass } = other;
         self.pass.join(&desk.turn, pass);
