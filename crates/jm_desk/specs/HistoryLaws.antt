@@ -1,5 +1,5 @@
 -- Lemmas on histories of turns.
-use Rattle.std.proofs.Common.{◌≡◌, ◌≢◌, ℕ, ◌+◌, ◌-◌, Bool, true, false, if◌then◌else◌, List, [], ◌∷◌, ◌++◌, length, take, refl, sym, ap, ◌∙◌, arith, append_assoc, append-nil, length-append}
+use Rattle.std.proofs.Common.{◌≡◌, ◌≢◌, ℕ, ◌-◌, Bool, true, false, if◌then◌else◌, List, [], ◌∷◌, ◌++◌, length, refl, sym, ap, ◌∙◌, arith, append_assoc, append-nil, length-append}
 use Rattle.std.proofs.Math.Seq.{take-append_seam}
 use Rattle.jm_turn.specs.declared.view.Made.{Made}
 use Rattle.jm_turn.specs.Turns.{made}
@@ -9,12 +9,12 @@ use Rattle.jm_book.specs.declared.steps.Step.TheVariants as step
 use Rattle.jm_book.specs.Book.{Takes}
 use Rattle.jm_book.specs.BookAnswers.{has_room}
 use Rattle.jm_book.specs.Session.{session_of}
-use Rattle.jm_book.specs.Legal.{takes, IsTaken, AreTaken, IsLegal}
+use Rattle.jm_book.specs.Legal.{takes, AreTaken}
 use Rattle.jm_desk.specs.declared.turn.DeskTurn.{DeskTurn}
 use Rattle.jm_desk.specs.declared.turn.Outcome.{Outcome}
 use Rattle.jm_desk.specs.declared.turn.Outcome.TheVariants as outcome
 use Rattle.jm_desk.specs.declared.held.Held.{Held}
-use Rattle.jm_desk.specs.History.{turned, answer_to, is_taken, step_of, taken, IsAnswer, AreAnswers, IsHistory, StandsFor, before_last}
+use Rattle.jm_desk.specs.History.{turned, answer_to, is_taken, step_of, taken, IsAnswer, AreAnswers, StandsFor, before_last}
 
 -- ---- one turn more
 

@@ -1,7 +1,6 @@
 -- What contracts see of a desk and its passes, and what one call makes of a pass.
-use Rattle.std.specs.Prelude.{ℕ, ◌≡◌, ◌%◌, Bool, false, List, length, Result, Some, Ok, Err}
+use Rattle.std.specs.Prelude.{ℕ, ◌≡◌, ◌%◌, Bool, false, length, Result, Some, Ok, Err}
 use Rattle.atomic_table.specs.Seated.{TableId}
-use Rattle.jm_turn.specs.declared.view.Made.{Made}
 use Rattle.jm_turn.specs.Known.{Known}
 use Rattle.jm_turn.specs.declared.view.View.{View}
 use Rattle.jm_turn.specs.Turns.{places, Follows}

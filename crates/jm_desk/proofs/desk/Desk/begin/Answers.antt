@@ -1,4 +1,3 @@
-use Rattle.std.proofs.Common.{◌≡◌}
 use Rattle.jm_desk.specs.declared.turn.Outcome.TheVariants.{NoMemory}
 use Rattle.jm_desk.specs.HistoryLaws.{stands_kept, stands_still}
 use Rattle.jm_desk.specs.SharingLaws.{since_first, turn_taken, makes_turn}

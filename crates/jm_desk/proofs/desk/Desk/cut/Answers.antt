@@ -1,4 +1,4 @@
-use Rattle.std.proofs.Common.{◌≡◌, ◌∙◌, ap}
+use Rattle.std.proofs.Common.{ap}
 use Rattle.jm_book.specs.declared.steps.Step.TheVariants as step
 use Rattle.jm_desk.specs.declared.turn.Outcome.TheVariants as outcome
 use Rattle.jm_desk.specs.Sharing.{MakesTurn}

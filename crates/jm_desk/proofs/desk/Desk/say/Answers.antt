@@ -1,8 +1,8 @@
-use Rattle.std.proofs.Common.{◌≡◌, ◌∙◌, ap}
+use Rattle.std.proofs.Common.{◌∙◌, ap}
 use Rattle.jm_book.specs.declared.steps.Step.TheVariants as step
 use Rattle.jm_desk.specs.declared.turn.Outcome.TheVariants as outcome
 use Rattle.jm_desk.specs.Sharing.{MakesTurn}
-use Rattle.jm_desk.specs.SharingLaws.{call_stands, call_makes, call_steps}
+use Rattle.jm_desk.specs.SharingLaws.{call_stands, call_makes}
 use Rattle.jm_desk.proofs.desk.Desk.say.Goals as goal
 
 pub end-requires-clause-stands : goal.end-requires-clause-stands
