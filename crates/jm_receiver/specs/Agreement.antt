@@ -32,13 +32,14 @@ use Rattle.jm_receiver.specs.NoteLaw.{note_repaired}
 use Rattle.jm_receiver.specs.PolyLaw.{poly_repaired}
 use Rattle.jm_receiver.specs.PressureLaw.{pressure_repaired}
 use Rattle.jm_receiver.specs.ProgramLaw.{program_repaired}
+use Rattle.jm_receiver.specs.SelectionLaw.{selection_repaired}
 use Rattle.jm_receiver.specs.SongLaw.{song_repaired}
+use Rattle.jm_receiver.specs.ToggleLaw.{toggles_repaired}
 use Rattle.jm_receiver.specs.WheelLaw.{wheel_repaired}
 use Rattle.jm_receiver.specs.ParamKeys.{is_known, Holds, half_of, same_self as param_self}
 use Rattle.jm_receiver.specs.ParamLaw.{recent, read_half, half_from, same_halves, params_before, half_before, holds_before}
 use Rattle.jm_receiver.specs.ParamLogs.{param}
 use Rattle.jm_receiver.specs.ParamPlaces.{params_entered, clears}
-use Rattle.jm_receiver.specs.Repairs.{Repairs}
 use Rattle.jm_receiver.specs.Whole.{has_half, IsEntered, IsWhole}
 
 -- More than 16 different parameters of the channel were entered since the last Reset State command.
@@ -64,7 +65,7 @@ StatesAreRepaired =
 
 -- ## All parts but parameters
 
-alike_parts : (own : ℕ → Bool) (s t : State) → SameBut (record nothing { params = own }) s t → SameButParams t s
+pub alike_parts : (own : ℕ → Bool) (s t : State) → SameBut (record nothing { params = own }) s t → SameButParams t s
 alike_parts own s t h = record {
   song = h.song refl;
   sequencer = h.sequencer refl;
@@ -125,16 +126,16 @@ all_known known ours (e ∷ es) h =
     last false = refl
 
 -- A whole state that has the same halves as one with known parameters has known ones.
-holds_too : (known : List Param) (ours theirs : List Entry) → IsEntered ours → Holds known theirs → ((p : Param) → halves_in ours p ≡ halves_in theirs p) → Holds known ours
+pub holds_too : (known : List Param) (ours theirs : List Entry) → IsEntered ours → Holds known theirs → ((p : Param) → halves_in ours p ≡ halves_in theirs p) → Holds known ours
 holds_too known ours theirs is h same = record {
   among = all_known known ours ours (λ p k. found_key known theirs p (λ none. found_valued ours p is.valued k (same p ∙ none)) h.among);
   distinct = is.distinct;
 }
 
-param_again : (p : Param) → param p.nrpn p.high p.low ≡ p
+pub param_again : (p : Param) → param p.nrpn p.high p.low ≡ p
 param_again p = same_param-equal (param p.nrpn p.high p.low) p (param_self p)
 
-few_of : (channel : ℕ) (sent : List Sent) → is_crowded channel sent ≡ false → length (params_entered channel sent) ≤ 16
+pub few_of : (channel : ℕ) (sent : List Sent) → is_crowded channel sent ≡ false → length (params_entered channel sent) ≤ 16
 few_of channel sent h = ltb-false 16 (length (params_entered channel sent)) h
 
 module _ (channel : ℕ) (l : channel < 16) (checkpoint next packet tick : ℕ) (sent : List Sent) (s : State) (o : InOrder packet_of sent) (early : checkpoint ≤ next) (late : next ≤ packet) (is : IsWhole s) (agrees : Agrees s (below packet_of next sent)) (few : length (params_entered channel (below packet_of packet sent)) ≤ 16) where
@@ -186,14 +187,8 @@ states_from checkpoint next packet tick sent s o early late groups is agrees =
       poly = λ channel note l k n. (a.channels channel l).poly note k ∙ (b.channels channel l).poly note k;
     }
 
--- the laws of the pedal's toggles and of the selection of each channel
-pub record Others : Type 0 where
-  pub toggles : (channel : ℕ) → channel < 16 → Repairs (λ s. toggles_of s channel)
-  pub selection : (channel : ℕ) → channel < 16 → Repairs (λ s. selection_of s channel)
-
--- With these two, whole states are repaired.
-pub states_repaired : Others → StatesAreRepaired
-states_repaired others checkpoint next packet tick sent s h o messages early late is agrees =
+pub states_repaired : StatesAreRepaired
+states_repaired checkpoint next packet tick sent s h o messages early late is agrees =
     states_from checkpoint next packet tick sent s o early late
     (record {
       all_but = record {
@@ -204,8 +199,8 @@ states_repaired others checkpoint next packet tick sent s h o messages early lat
         channels = λ channel l. record {
           program = program_repaired channel l checkpoint next packet tick sent o early late;
           control = λ number n. control_repaired channel number l n checkpoint next packet tick sent o early late;
-          toggles = others.toggles channel l checkpoint next packet tick sent o early late;
-          selection = others.selection channel l checkpoint next packet tick sent o early late;
+          toggles = toggles_repaired channel l checkpoint next packet tick sent o early late;
+          selection = selection_repaired channel l checkpoint next packet tick sent o early late;
           wheel = wheel_repaired channel l checkpoint next packet tick sent o early late;
           note = λ note n. note_repaired channel note l n checkpoint next packet tick sent o early late;
           pressure = pressure_repaired channel l checkpoint next packet tick sent o early late;

@@ -66,7 +66,7 @@ program_same channel command s t l h =
     let c = h.channels channel l in
     rw (c.control 0 (omega arith), c.control 32 (omega arith), c.program) refl
 
-applied_same : (s t : State) (command : Command) → IsState s → IsState t → SameButParams s t → SameButParams (applied s command) (applied t command)
+pub applied_same : (s t : State) (command : Command) → IsState s → IsState t → SameButParams s t → SameButParams (applied s command) (applied t command)
 applied_same s t command left right h =
     let a = by_part s command left in
     let b = by_part t command right in

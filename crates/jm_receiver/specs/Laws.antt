@@ -1,7 +1,9 @@
 -- What the laws of repair say.
-use Rattle.std.specs.Prelude.{◌≡◌, ℕ, ◌<◌, Bool, List, None, Ok}
+use Rattle.std.specs.Prelude.{◌≡◌, ℕ, ◌<◌, Bool, List, ◌++◌, None, Ok}
 use Rattle.jm_state.specs.declared.state.State.{State}
 use Rattle.jm_state.specs.Parts.{no_state, song_of, sequencer_of, time_code_of, program_of, control_of, toggles_of, selection_of, param_of, wheel_of, note_of, pressure_of, poly_of}
+use Rattle.jm_state.specs.ReplayLaws.{state_behind}
+use Rattle.jm_cmds.specs.declared.history.Sent.{Sent}
 use Rattle.jm_reader.specs.declared.logs.Log.{Log}
 use Rattle.jm_receiver.specs.declared.receiver.Took.{Took}
 use Rattle.jm_receiver.specs.Receiver.{Received}
@@ -13,6 +15,7 @@ use Rattle.jm_receiver.specs.FreshLogs.{FreshRepairs, FreshRepairsCommands}
 use Rattle.jm_receiver.specs.MessageLaw.{RepairsMessages}
 use Rattle.jm_receiver.specs.ParamLaw.{RepairsFew}
 use Rattle.jm_receiver.specs.Whole.{IsWhole, IsReceived}
+use Rattle.jm_receiver.specs.Agreement.{Agrees}
 
 -- the program of each channel, with the bank that it was chosen with
 abbrev pub ProgramsAreRepaired : Type 0
@@ -80,3 +83,7 @@ pub record ReceiversStayWhole : Type 0 where
   pub begins : (ssrc : ℕ) → IsReceived (record { ssrc = ssrc; last = None; state = no_state })
   pub takes : (r : Received) (octets : List ℕ) (after : Received) (took : Took) → IsReceived r → accepted r octets ≡ Ok (after, took) → IsReceived after
   pub repairs : (s : State) (logs : List Log) → IsWhole s → IsWhole (repaired s logs)
+
+-- The same commands leave a whole state that agrees with the session before them one that agrees with the session behind them.
+abbrev pub CommandsKeepAgreement : Type 0
+CommandsKeepAgreement = (before after : List Sent) (s : State) → IsWhole s → Agrees s before → Agrees (state_behind s after) (before ++ after)

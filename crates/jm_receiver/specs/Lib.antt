@@ -33,3 +33,4 @@ pub mod ParamLaw
 pub mod Whole
 pub mod Congruence
 pub mod Agreement
+pub mod KeptAgreement

@@ -195,7 +195,7 @@ since-scanned step at from s (x ∷ xs) o =
           rw (f, le-leb from (at x) begins, filter_none (λ y. ltb (at y) from) xs none, since_all at from xs later, placed) refl
     ]
 
-scanned-append : {S X : Type 0} (step : S → X → S) (s : S) (xs ys : List X) → scanned step s (xs ++ ys) ≡ scanned step s xs ++ scanned step (fold step s xs) ys
+pub scanned-append : {S X : Type 0} (step : S → X → S) (s : S) (xs ys : List X) → scanned step s (xs ++ ys) ≡ scanned step s xs ++ scanned step (fold step s xs) ys
 scanned-append step s [] ys = refl
 scanned-append step s (x ∷ xs) ys = ap (λ (l : List _). (s, x) ∷ l) (scanned-append step (step s x) xs ys)
 

@@ -212,7 +212,7 @@ module _ (channel : ℕ) (known : List Param) (few : length known ≤ 16) where
 
 -- ## The state of a channel
 
-selection_same : (s : Option Selection) (command : ParamCommand) → selection_from (selection_behind s command) ≡ selection_after (selection_from s) command
+pub selection_same : (s : Option Selection) (command : ParamCommand) → selection_from (selection_behind s command) ≡ selection_after (selection_from s) command
 selection_same s (Select nrpn high value) = refl
 selection_same s (Enter high value) = refl
 selection_same s Unselect = refl

@@ -412,3 +412,125 @@ fn fresh_logs(rt: HostRuntime) -> Result<(), Fail> {
     assert!(rt; first.program(Channel::low(0)) == None);
     Ok(())
 }
+
+/// One more command, in this packet.
+fn add(list: &mut Vec<Sent>, packet: u64, octets: &[u8], alloc: Global) -> Result<(), Fail> {
+    let (command, _size) = read_command(octets, alloc)?;
+    list.push(Sent {
+        packet,
+        tick: 0,
+        command,
+    })?;
+    Ok(())
+}
+
+/// The state behind the packets before `next`, repaired by the journal of this packet, which makes it the sender's.
+fn repaired_whole<R: Abort>(
+    rt: &R,
+    list: &[Sent],
+    checkpoint: u64,
+    next: u64,
+    packet: u64,
+    alloc: Global,
+) -> Result<State, Fail> {
+    let state = repaired(rt, list, checkpoint, next, packet, false, alloc)?;
+    assert!(rt; state.same(&state_before(list, packet)));
+    Ok(state)
+}
+
+/// Messages, more than an octet counts: 128 logs, of which the state has none, some and all but one; and behind a reset of each
+/// kind, of which the later one stands alone.
+#[test]
+fn messages(rt: HostRuntime) -> Result<(), Fail> {
+    let alloc = rt.alloc();
+    let mut list = Vec::new(alloc);
+    for message in 0..260u64 {
+        add(&mut list, message / 20, &[0xf0, 0xf7], alloc)?;
+    }
+    add(&mut list, 13, &[0xff], alloc)?;
+    add(&mut list, 13, &[0xf0, 1, 0xf7], alloc)?;
+    add(&mut list, 14, &[0xf0, 0x7e, 5, 9, 3, 0xf7], alloc)?;
+    add(&mut list, 15, &[0xf0, 0xf7], alloc)?;
+    add(&mut list, 16, &[0xf0, 2, 0xf7], alloc)?;
+    assert_eq!(rt;
+        repaired_whole(&rt, &list, 0, 0, 6, alloc)?.sysex_count(),
+        120
+    );
+    assert_eq!(rt;
+        repaired_whole(&rt, &list, 7, 7, 13, alloc)?.sysex_count(),
+        4
+    );
+    assert_eq!(rt;
+        repaired_whole(&rt, &list, 7, 12, 13, alloc)?.sysex_count(),
+        4
+    );
+    assert_eq!(rt;
+        repaired_whole(&rt, &list, 7, 10, 17, alloc)?.sysex_count(),
+        2
+    );
+    assert_eq!(rt;
+        repaired_whole(&rt, &list, 15, 16, 17, alloc)?.sysex_count(),
+        2
+    );
+    Ok(())
+}
+
+/// A parameter is selected, and both halves of its value are entered.
+fn enter(
+    list: &mut Vec<Sent>,
+    packet: u64,
+    nrpn: bool,
+    number: u8,
+    alloc: Global,
+) -> Result<(), Fail> {
+    let high = if nrpn { 0x63 } else { 0x65 };
+    let low = if nrpn { 0x62 } else { 0x64 };
+    add(list, packet, &[0xb0, high, 0], alloc)?;
+    add(list, packet, &[0xb0, low, number], alloc)?;
+    add(list, packet, &[0xb0, 6, number], alloc)?;
+    add(
+        list,
+        packet,
+        &[0xb0, 0x26, number.wrapping_add(0x10)],
+        alloc,
+    )
+}
+
+/// The halves of a parameter.
+fn halves(state: &State, nrpn: bool, number: u8) -> (Option<u8>, Option<u8>) {
+    let halves = state.param(Channel::low(0), nrpn, D7::low(0), D7::low(number));
+    (
+        halves.entry_high.map(|value| value.get()),
+        halves.entry_low.map(|value| value.get()),
+    )
+}
+
+/// Sixteen parameters of both kinds with equal numbers, of which one gets another low half; and behind a reset one more, of
+/// which there is a high half alone.
+#[test]
+fn parameters(rt: HostRuntime) -> Result<(), Fail> {
+    let alloc = rt.alloc();
+    let mut list = Vec::new(alloc);
+    for number in 0..8u8 {
+        enter(&mut list, 2 * u64::from(number), false, number, alloc)?;
+        enter(&mut list, 2 * u64::from(number) + 1, true, number, alloc)?;
+    }
+    add(&mut list, 16, &[0xb0, 0x62, 3], alloc)?;
+    add(&mut list, 16, &[0xb0, 0x26, 0x7f], alloc)?;
+    add(&mut list, 17, &[0xff], alloc)?;
+    add(&mut list, 18, &[0xb0, 6, 0x55], alloc)?;
+    add(&mut list, 18, &[0xb0, 0x65, 0], alloc)?;
+    add(&mut list, 18, &[0xb0, 0x64, 9], alloc)?;
+    add(&mut list, 18, &[0xb0, 6, 0x44], alloc)?;
+    for next in [0u64, 9, 16] {
+        let state = repaired_whole(&rt, &list, 0, next, 17, alloc)?;
+        assert_eq!(rt; halves(&state, false, 0), (Some(0), Some(0x10)));
+        assert_eq!(rt; halves(&state, false, 3), (Some(3), Some(0x13)));
+        assert_eq!(rt; halves(&state, true, 3), (Some(3), Some(0x7f)));
+        assert_eq!(rt; halves(&state, true, 7), (Some(7), Some(0x17)));
+    }
+    let state = repaired_whole(&rt, &list, 5, 12, 19, alloc)?;
+    assert_eq!(rt; halves(&state, true, 3), (None, None));
+    assert_eq!(rt; halves(&state, false, 9), (Some(0x44), None));
+    Ok(())
+}

@@ -4,7 +4,9 @@
 //! law is the contract of a function that does nothing; commands stand in the order of their packets.
 
 ghost use Rattle.jm_receiver.specs.Laws.{ProgramsAreRepaired, ControlsAreRepaired, WheelsAreRepaired, NotesAreRepaired, PressuresAreRepaired, SongIsRepaired, SequencerIsRepaired, TimeCodeIsRepaired, TogglesAreRepaired, SelectionsAreRepaired, FreshLogsRepair};
-ghost use Rattle.jm_receiver.specs.Laws.{MessagesAreRepaired, ParametersAreRepaired, ReceiversStayWhole};
+ghost use Rattle.jm_receiver.specs.Laws.{MessagesAreRepaired, ParametersAreRepaired, ReceiversStayWhole, CommandsKeepAgreement};
+ghost use Rattle.jm_receiver.specs.Agreement.{StatesAreRepaired};
+ghost use Rattle.jm_receiver.specs.KeptAgreement.{InStepAgain};
 
 /// The program of each channel is repaired, with the bank that it was chosen with.
 #[tactic(auto, using(crate::specs::ProgramLaw::program_repaired))]
@@ -91,4 +93,25 @@ pub fn parameters_are_repaired()
 /// and counts are in their ranges. All parts are absent before it has taken a packet.
 pub fn receivers_stay_whole()
     ensures { ReceiversStayWhole }
+{}
+
+/// Where a whole state agrees with what the commands of a session left, all parts being equal but for the parameters of channels in
+/// which more than 16 different ones were entered since the last Reset State command, it agrees still behind further
+/// commands.
+pub fn commands_keep_agreement()
+    ensures { CommandsKeepAgreement }
+{}
+
+/// Whole states are repaired: one that agrees with the packets before the first lost one, repaired by all logs of a packet's journal,
+/// agrees with all packets before that one.
+#[tactic(auto, using(crate::specs::Agreement::states_repaired))]
+pub fn states_are_repaired()
+    ensures { StatesAreRepaired }
+{}
+
+/// A packet that is taken after lost ones brings a state in step again: repaired by all logs of its journal and then given its
+/// commands it agrees with all packets up to it.
+#[tactic(auto, using(crate::specs::KeptAgreement::in_step_again))]
+pub fn states_are_in_step_again()
+    ensures { InStepAgain }
 {}
