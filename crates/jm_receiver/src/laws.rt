@@ -104,14 +104,12 @@ pub fn commands_keep_agreement()
 
 /// Whole states are repaired: one that agrees with the packets before the first lost one, repaired by all logs of a packet's journal,
 /// agrees with all packets before that one.
-#[tactic(auto, using(crate::specs::Agreement::states_repaired))]
 pub fn states_are_repaired()
     ensures { StatesAreRepaired }
 {}
 
 /// A packet that is taken after lost ones brings a state in step again: repaired by all logs of its journal and then given its
 /// commands it agrees with all packets up to it.
-#[tactic(auto, using(crate::specs::KeptAgreement::in_step_again))]
 pub fn states_are_in_step_again()
     ensures { InStepAgain }
 {}
