@@ -1,30 +1,27 @@
 -- The law of repair for whole states.
-use Rattle.std.proofs.Common.{◌≡◌, ℕ, ◌<◌, ◌≤◌, Bool, true, false, not, cond, ◌||◌, List, [], ◌∷◌, ◌++◌, Option, Some, None, fold, length, refl, sym, ap, ◌∙◌, inl, inr, arith}
-use Rattle.std.specs.Prelude.{is_some, nat_lt}
+use Rattle.std.proofs.Common.{◌≡◌, ℕ, ◌<◌, ◌≤◌, Bool, true, false, ◌||◌, List, [], ◌∷◌, length, refl, sym, ap, ◌∙◌, inl, inr, arith}
+use Rattle.std.specs.Prelude.{nat_lt}
 use Rattle.std.specs.List.{list_any, AllByRecursion}
-use Rattle.std.proofs.lemmas.Bool.{cases_Bool, or_parts, ltb-false, le-ltb}
+use Rattle.std.proofs.lemmas.Bool.{cases_Bool, ltb-false, le-ltb}
 use Rattle.jm_cmds.specs.declared.history.Sent.{Sent}
 use Rattle.jm_cmds.specs.declared.param.Param.{Param}
-use Rattle.jm_cmds.specs.History.{below, since, InOrder}
+use Rattle.jm_cmds.specs.History.{below, InOrder}
 use Rattle.jm_cmds.specs.Param.{same_param}
 use Rattle.jm_cmds.specs.ParamLaws.{same_param-equal}
 use Rattle.jm_cmds.specs.Sent.{packet_of}
-use Rattle.ch_param.specs.Event.{Place, event_at, packet_at}
-use Rattle.ch_param.specs.ChapterM.{session_places}
 use Rattle.ch_sysex.specs.ChapterX.{sysex_logs}
 use Rattle.jm_state.specs.declared.entered.Entry.{Entry}
 use Rattle.jm_state.specs.declared.entered.Halves.{Halves}
 use Rattle.jm_state.specs.declared.state.State.{State}
 use Rattle.jm_state.specs.Entered.{no_halves, halves_in}
-use Rattle.jm_state.specs.Kept.{IsState}
 use Rattle.jm_state.specs.KeptLaws.{no_state_is}
-use Rattle.jm_state.specs.Parts.{no_state, channel_of, song_of, sequencer_of, time_code_of, sysex_count_of, program_of, control_of, toggles_of, selection_of, entered_of, param_of, wheel_of, note_of, pressure_of, poly_of}
+use Rattle.jm_state.specs.Parts.{no_state, toggles_of, selection_of, entered_of, param_of}
 use Rattle.jm_state.specs.ReplayLaws.{state_behind, behind_is}
 use Rattle.jm_state.specs.SettingLaws.{Touched, nothing, SameBut}
 use Rattle.jm_reader.specs.Written.{AreCommands}
 use Rattle.jm_reader.specs.WrittenJournal.{journal_logs}
 use Rattle.jm_receiver.specs.Repair.{repaired}
-use Rattle.jm_receiver.specs.Congruence.{AreAlike, SameButParams, repaired_same}
+use Rattle.jm_receiver.specs.Congruence.{SameButParams, repaired_same}
 use Rattle.jm_receiver.specs.KnownLaw.{sequencer_repaired, time_code_repaired}
 use Rattle.jm_receiver.specs.MessageLaw.{number_of_messages_repaired}
 use Rattle.jm_receiver.specs.ControlLaw.{control_repaired}

@@ -1,21 +1,19 @@
 -- Repair of two states that are the same but for their parameters leaves them the same but for their parameters.
-use Rattle.std.proofs.Common.{◌≡◌, ℕ, ◌+◌, ◌%◌, ◌<◌, Bool, true, false, cond, eqb, List, [], ◌∷◌, Option, Some, None, fold, length, refl, sym, ap, ◌∙◌, subst, inl, inr, arith}
+use Rattle.std.proofs.Common.{◌≡◌, ℕ, ◌+◌, ◌%◌, ◌<◌, Bool, true, false, cond, eqb, List, [], ◌∷◌, Option, Some, None, fold, refl, sym, ap, ◌∙◌, subst, inl, inr, arith}
 use Rattle.std.specs.List.{flat_map}
 use Rattle.std.proofs.lemmas.Bool.{cases_Bool}
 use Rattle.jm_cmds.specs.declared.commands.Command.{Command}
 use Rattle.jm_cmds.specs.declared.param.Param.{Param}
 use Rattle.jm_cmds.specs.declared.pedal.Pedal.{Pedal}
 use Rattle.jm_cmds.specs.declared.selection.Selection.{Selection}
-use Rattle.jm_cmds.specs.Frames.{time_code_step, frame_event}
 use Rattle.jm_cmds.specs.Pedal.{pedal_step, pedal_event}
 use Rattle.jm_cmds.specs.Selection.{param_command}
-use Rattle.jm_cmds.specs.Sequencing.{sequencer_step, sequencer_event}
 use Rattle.jm_state.specs.declared.channel.ChannelState.{ChannelState}
 use Rattle.jm_state.specs.declared.channel.ProgramPart.{ProgramPart}
 use Rattle.jm_state.specs.declared.state.State.{State}
 use Rattle.jm_state.specs.Apply.{applied}
-use Rattle.jm_state.specs.Kept.{IsState, of_channel, channel_put}
-use Rattle.jm_state.specs.Parts.{no_state, channel_of, with_channel, control_at, pedal_by, half_put, song_of, sequencer_of, time_code_of, sysex_count_of, program_of, control_of, toggles_of, pedal_of, selection_of, wheel_of, note_of, pressure_of, poly_of}
+use Rattle.jm_state.specs.Kept.{IsState, channel_put}
+use Rattle.jm_state.specs.Parts.{no_state, channel_of, with_channel, control_at, pedal_by, half_put, song_of, sequencer_of, time_code_of, sysex_count_of, program_of, control_of}
 use Rattle.jm_state.specs.PartLaws.{by_part}
 use Rattle.jm_state.specs.Says.{said, count_after, song_says, program_says, control_says, selection_behind, wheel_says, note_says, pressure_says, poly_says}
 use Rattle.jm_state.specs.Table.{value_at}

@@ -1,5 +1,5 @@
 -- A state that agrees with a session's agrees with it still behind the same commands.
-use Rattle.std.proofs.Common.{◌≡◌, ℕ, ◌+◌, ◌<◌, ◌≤◌, Bool, true, false, cond, eqb, ltb, leb, List, [], ◌∷◌, ◌++◌, Option, Some, None, fold, filter, length, refl, sym, ap, ◌∙◌, subst, inl, inr, arith}
+use Rattle.std.proofs.Common.{◌≡◌, ℕ, ◌+◌, ◌<◌, ◌≤◌, Bool, true, false, eqb, ltb, leb, List, [], ◌∷◌, ◌++◌, fold, length, refl, sym, ap, ◌∙◌, subst, inl, inr, arith}
 use Rattle.std.specs.List.{list_any}
 use Rattle.std.proofs.lemmas.Bool.{cases_Bool, le-ltb}
 use Rattle.std.proofs.lemmas.Bool.Decides.{nat_tests}
@@ -30,14 +30,14 @@ use Rattle.jm_reader.specs.Written.{AreCommands}
 use Rattle.jm_reader.specs.WrittenJournal.{journal_logs}
 use Rattle.jm_receiver.specs.Repair.{repaired}
 use Rattle.jm_receiver.specs.Repairs.{below_next}
-use Rattle.jm_receiver.specs.Agreement.{is_crowded, crowded, Agrees, states_repaired, alike_parts, holds_too, param_again, few_of}
+use Rattle.jm_receiver.specs.Agreement.{is_crowded, Agrees, states_repaired, alike_parts, holds_too, param_again, few_of}
 use Rattle.jm_receiver.specs.Congruence.{SameButParams, applied_same}
 use Rattle.jm_receiver.specs.MessageLaw.{scanned-append}
 use Rattle.jm_receiver.specs.ParamKeys.{Holds, holds_none, half_of}
 use Rattle.jm_receiver.specs.ParamLaw.{read_half, same_halves}
 use Rattle.jm_receiver.specs.ParamLogs.{param}
-use Rattle.jm_receiver.specs.ParamPlaces.{params_step, params_entered, clears, Knows, knows_own, knows_front, grows, entered_step, place_says, anew, clears_speak, holds_behind, half_behind, entered_places, entered_session, selection_same}
-use Rattle.jm_receiver.specs.Whole.{IsEntered, IsWhole, applied_whole, repaired_whole}
+use Rattle.jm_receiver.specs.ParamPlaces.{params_step, params_entered, clears, Knows, knows_own, knows_front, grows, place_says, anew, clears_speak, holds_behind, half_behind, entered_places, entered_session, selection_same}
+use Rattle.jm_receiver.specs.Whole.{IsWhole, repaired_whole}
 
 same_behind : (s t : State) (xs : List Sent) → IsState s → IsState t → SameButParams s t → SameButParams (state_behind s xs) (state_behind t xs)
 same_behind s t [] left right h = h

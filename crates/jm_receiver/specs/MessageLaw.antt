@@ -1,12 +1,12 @@
 -- The law of repair for the number of kept System Exclusive messages. No last log tells it: each log that counts adds one.
-use Rattle.std.proofs.Common.{◌≡◌, ℕ, zero, suc, ◌+◌, ◌-◌, ◌%◌, ◌<◌, ◌≤◌, Bool, true, false, not, cond, ◌&&◌, ◌||◌, ltb, leb, List, [], ◌∷◌, ◌++◌, fold, refl, sym, ap, ◌∙◌, inl, inr, arith}
+use Rattle.std.proofs.Common.{◌≡◌, ℕ, zero, suc, ◌+◌, ◌-◌, ◌%◌, ◌<◌, ◌≤◌, Bool, true, false, cond, ◌&&◌, ◌||◌, ltb, leb, List, [], ◌∷◌, ◌++◌, fold, refl, sym, ap, ◌∙◌, inl, inr, arith}
 use Rattle.std.specs.Prelude.{count_by}
 use Rattle.std.specs.List.{flat_map, list_any, AllByRecursion}
 use Rattle.std.proofs.lemmas.Bool.{cases_Bool, ltb-true, ltb-false, lt-leb, le-leb, le-ltb, or_parts}
 use Rattle.std.proofs.lemmas.List.Sums.{fold-append, sum_by-cons}
 use Rattle.std.proofs.lemmas.Grind.{flat_map-append}
 use Rattle.jm_cmds.specs.declared.commands.Command.{Command}
-use Rattle.jm_cmds.specs.declared.commands.Command.TheVariants.{Sysex, SystemReset}
+use Rattle.jm_cmds.specs.declared.commands.Command.TheVariants.{Sysex}
 use Rattle.jm_cmds.specs.declared.history.Sent.{Sent}
 use Rattle.jm_cmds.specs.Control.{is_reset, is_reset_message}
 use Rattle.jm_cmds.specs.Data.{is_kept_message}
@@ -17,7 +17,7 @@ use Rattle.ch_sysex.specs.declared.events.SysexEvent.{SysexEvent}
 use Rattle.ch_sysex.specs.declared.events.SysexEvent.TheVariants.{Kept, ResetMessage, Reset, Other}
 use Rattle.ch_sysex.specs.SysexEvent.{sysex_event, event_at, data_of, is_logged, resets, sysex_ends, count_step}
 use Rattle.ch_sysex.specs.ChapterLaws.{any-ends}
-use Rattle.ch_sysex.specs.ChapterX.{counted_packet, counted_ends, coded_counted, has_log, sysex_logs}
+use Rattle.ch_sysex.specs.ChapterX.{counted_packet, counted_ends, has_log, sysex_logs}
 use Rattle.jm_state.specs.declared.state.State.{State}
 use Rattle.jm_state.specs.Apply.{applied}
 use Rattle.jm_state.specs.Parts.{no_state, sysex_count_of}

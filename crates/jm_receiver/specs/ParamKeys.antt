@@ -1,5 +1,5 @@
 -- Parameters that are entered while only so many different ones are: none is pushed out.
-use Rattle.std.proofs.Common.{◌≡◌, ℕ, suc, ◌+◌, ◌<◌, ◌≤◌, Bool, true, false, not, cond, ◌&&◌, ◌||◌, eqb, List, [], ◌∷◌, ◌++◌, Option, Some, None, map, length, filter, refl, sym, ap, ◌∙◌, inl, inr, arith, eq-eqb}
+use Rattle.std.proofs.Common.{◌≡◌, ℕ, suc, ◌<◌, ◌≤◌, Bool, true, false, not, cond, ◌&&◌, List, [], ◌∷◌, ◌++◌, Option, Some, None, map, length, filter, refl, sym, ap, ◌∙◌, inl, inr, arith, eq-eqb}
 use Rattle.std.proofs.Math.Bool.{beq}
 use Rattle.std.specs.Cmp.{IsEquivalence}
 use Rattle.std.specs.List.{list_any, AllByRecursion, IsDistinct}
@@ -9,7 +9,7 @@ use Rattle.std.proofs.lemmas.Map.Made.{length-le_from_is_member}
 use Rattle.jm_cmds.specs.declared.param.Param.{Param}
 use Rattle.jm_cmds.specs.HistoryLaws.{AllByRecursion-append, AllByRecursion-filter}
 use Rattle.jm_cmds.specs.Param.{same_param}
-use Rattle.jm_cmds.specs.ParamLaws.{same_param-equal, beq-true}
+use Rattle.jm_cmds.specs.ParamLaws.{same_param-equal}
 use Rattle.jm_state.specs.declared.entered.Entry.{Entry}
 use Rattle.jm_state.specs.declared.entered.Halves.{Halves}
 use Rattle.jm_state.specs.Entered.{half_set, halves_in, is_other, entered_with}

@@ -15,11 +15,11 @@ use Rattle.jm_cmds.specs.declared.selection.ParamCommand.TheVariants.{Clear, Pas
 use Rattle.jm_cmds.specs.declared.selection.Selection.{Selection}
 use Rattle.jm_cmds.specs.Control.{control_kind, is_reset}
 use Rattle.jm_cmds.specs.History.{standing, below, since, coded, InOrder}
-use Rattle.jm_cmds.specs.HistoryLaws.{any_weaker, filter-filter, InOrder-filter, InOrder-scanned, AllByRecursion-filter}
+use Rattle.jm_cmds.specs.HistoryLaws.{filter-filter, InOrder-filter, InOrder-scanned, AllByRecursion-filter}
 use Rattle.jm_cmds.specs.Param.{same_param}
 use Rattle.jm_cmds.specs.ParamLaws.{same_param-equal}
 use Rattle.jm_cmds.specs.Selection.{no_selection, control_command, param_command, selected_param}
-use Rattle.jm_cmds.specs.Sent.{packet_of, is_fresh}
+use Rattle.jm_cmds.specs.Sent.{packet_of}
 use Rattle.ch_param.specs.declared.events.ParamEvent.{ParamEvent}
 use Rattle.ch_param.specs.declared.events.ParamEvent.TheVariants.{Entry as Entered, Cleared, Other}
 use Rattle.ch_param.specs.Event.{Place, entry, param_event, selection_step, packet_at, event_at, takes_param, param_event_ends, param_ends}
@@ -37,20 +37,18 @@ use Rattle.jm_state.specs.Kept.{IsState, no_channel_at}
 use Rattle.jm_state.specs.KeptLaws.{no_state_is}
 use Rattle.jm_state.specs.Replay.{over, said-over, in_two}
 use Rattle.jm_state.specs.ReplayLaws.{state_behind, behind_is}
-use Rattle.jm_state.specs.Final.{final, speaks, over_none, speaks-final, final-append, final-map, final-same, final-ended, final-coded, repaired_by}
+use Rattle.jm_state.specs.Final.{final, speaks, over_none, speaks-final, final-map, final-same, final-ended, final-coded, repaired_by}
 use Rattle.jm_reader.specs.declared.logs.Log.{Log}
-use Rattle.jm_reader.specs.declared.logs.LogKind.{LogKind}
-use Rattle.jm_reader.specs.declared.logs.LogKind.TheVariants as kinds
 use Rattle.jm_reader.specs.WrittenM.{m_said, entered_said}
 use Rattle.jm_reader.specs.WrittenJournal.{journal_logs}
 use Rattle.jm_receiver.specs.Repair.{has_reset, cleared, repaired}
-use Rattle.jm_receiver.specs.Order.{log_says, cleared_is}
+use Rattle.jm_receiver.specs.Order.{log_says}
 use Rattle.jm_receiver.specs.SystemLogs.{all_map}
 use Rattle.jm_receiver.specs.Repairs.{below_next}
 use Rattle.jm_receiver.specs.Resets.{reset_of_journal}
 use Rattle.jm_receiver.specs.ProgramLaw.{any-since_placed, below-scanned}
-use Rattle.jm_receiver.specs.ParamKeys.{is_known, Holds, same_self, holds_none, half_of}
-use Rattle.jm_receiver.specs.ParamPlaces.{params_step, params_entered, is_clear, clears, IsOfKnown, Knows, knows_own, knows_front, grows, entered_step, event_says, place_says, holds_behind, half_behind, clears_speak, anew, entered_session}
+use Rattle.jm_receiver.specs.ParamKeys.{is_known, Holds, holds_none, half_of}
+use Rattle.jm_receiver.specs.ParamPlaces.{params_step, params_entered, is_clear, clears, IsOfKnown, Knows, knows_own, knows_front, grows, event_says, place_says, holds_behind, half_behind, clears_speak, anew, entered_session}
 use Rattle.jm_receiver.specs.ParamLogs.{param, as_said, param_log_says, IsLogOfKnown, Fits, all_in_order, logs_said, entered_repaired, journal_fits, m_alone}
 
 -- As `Repairs`, for a channel in which at most 16 different parameters were entered since the last Reset State command of the packets

@@ -1,8 +1,8 @@
 -- What the logs of a written journal enter in a channel.
-use Rattle.std.proofs.Common.{◌≡◌, ℕ, ◌+◌, ◌%◌, ◌<◌, ◌≤◌, Bool, true, false, not, cond, ◌&&◌, eqb, List, [], ◌∷◌, ◌++◌, Option, Some, None, fold, map, length, refl, sym, ap, ◌∙◌, inl, inr, arith}
+use Rattle.std.proofs.Common.{◌≡◌, ℕ, ◌%◌, ◌<◌, ◌≤◌, Bool, true, false, not, cond, ◌&&◌, eqb, List, [], ◌∷◌, Option, Some, None, fold, length, refl, sym, ap, ◌∙◌, inl, inr, arith}
 use Rattle.std.proofs.Math.Bool.{beq}
 use Rattle.std.specs.List.{flat_map, list_any, AllByRecursion}
-use Rattle.std.proofs.lemmas.Bool.{cases_Bool, eqb-true, eq-eqb, or_parts, and_parts}
+use Rattle.std.proofs.lemmas.Bool.{cases_Bool, eqb-true, eq-eqb, and_parts}
 use Rattle.std.proofs.lemmas.Bool.Decides.{nat_tests}
 use Rattle.jm_cmds.specs.declared.commands.Command.{Command}
 use Rattle.jm_cmds.specs.declared.commands.Command.TheVariants as commands
@@ -15,7 +15,7 @@ use Rattle.jm_cmds.specs.ControlLaws.{is_entry_kind, is_entry-kind}
 use Rattle.jm_cmds.specs.History.{below}
 use Rattle.jm_cmds.specs.HistoryLaws.{AllByRecursion-append, AllByRecursion-weaker}
 use Rattle.jm_cmds.specs.Param.{same_param}
-use Rattle.jm_cmds.specs.Selection.{control_command, param_command}
+use Rattle.jm_cmds.specs.Selection.{control_command}
 use Rattle.jm_cmds.specs.Sent.{packet_of, is_fresh}
 use Rattle.ch_control.specs.declared.events.ControlEvent.{ControlEvent}
 use Rattle.ch_control.specs.declared.events.ControlEvent.TheVariants as events
@@ -26,11 +26,11 @@ use Rattle.jm_state.specs.declared.entered.Entry.{Entry}
 use Rattle.jm_state.specs.declared.state.State.{State}
 use Rattle.jm_state.specs.Apply.{applied, selected_by}
 use Rattle.jm_state.specs.Entered.{halves_in, entered_with}
-use Rattle.jm_state.specs.Parts.{no_state, nth_channel, channel_of, with_channel, half_put, selection_of, entered_of}
+use Rattle.jm_state.specs.Parts.{nth_channel, channel_of, with_channel, half_put, selection_of, entered_of}
 use Rattle.jm_state.specs.Says.{said, entered_behind}
-use Rattle.jm_state.specs.Kept.{IsState, of_channel, channel_put}
+use Rattle.jm_state.specs.Kept.{IsState, channel_put}
 use Rattle.jm_state.specs.PartLaws.{by_part}
-use Rattle.jm_state.specs.Replay.{over, said-over}
+use Rattle.jm_state.specs.Replay.{said-over}
 use Rattle.jm_state.specs.Final.{final, over_none, final-flat_map, final-none, final-one}
 use Rattle.jm_reader.specs.declared.logs.Log.{Log}
 use Rattle.jm_reader.specs.declared.logs.LogKind.{LogKind}
@@ -42,12 +42,12 @@ use Rattle.jm_reader.specs.WrittenJournal.{journal_logs}
 use Rattle.jm_receiver.specs.declared.group.Group.{Group}
 use Rattle.jm_receiver.specs.declared.group.Group.TheVariants.{Programs, Params, Controls, Wheels, Released, Struck, Pressures, Polys}
 use Rattle.jm_receiver.specs.Group.{is_of, all_groups, all_channels}
-use Rattle.jm_receiver.specs.Repair.{has_reset, cleared, counts, with_message, messages_repaired, with_session_log, session_repaired, high_entered, low_entered, with_channel_log, repaired}
-use Rattle.jm_receiver.specs.Order.{of_group, in_order, with_log, log_says, session_done, repaired-fold, channel_log_is, session_is, high_is, tag, rank, is_tagged, is_of-tag, final-filter_none, all_of}
+use Rattle.jm_receiver.specs.Repair.{has_reset, cleared, counts, with_message, messages_repaired, with_session_log, high_entered, low_entered, with_channel_log, repaired}
+use Rattle.jm_receiver.specs.Order.{of_group, in_order, with_log, log_says, session_done, repaired-fold, channel_log_is, session_is, high_is, tag, rank, is_of-tag, final-filter_none, all_of}
 use Rattle.jm_receiver.specs.SystemLogs.{all_flat}
 use Rattle.jm_receiver.specs.Chapters.{group_logs, group_tagged, in_order_of_journal}
 use Rattle.jm_receiver.specs.Repairs.{session_channels}
-use Rattle.jm_receiver.specs.ParamKeys.{is_known, Holds, holds_entered, half_of, half_says, half_entered}
+use Rattle.jm_receiver.specs.ParamKeys.{is_known, Holds, holds_entered, half_of, half_entered}
 
 -- ## One log
 

@@ -1,7 +1,6 @@
 -- The parameters that were entered in a channel since the last Reset State command, and what a session says of the halves of each.
-use Rattle.std.proofs.Common.{◌≡◌, ℕ, ◌<◌, ◌≤◌, Bool, true, false, cond, ◌&&◌, ◌||◌, List, [], ◌∷◌, ◌++◌, Option, Some, None, fold, length, refl, sym, ap, ◌∙◌, inl, inr, arith}
-use Rattle.std.proofs.Math.Bool.{beq}
-use Rattle.std.specs.List.{list_any, AllByRecursion}
+use Rattle.std.proofs.Common.{◌≡◌, ℕ, ◌<◌, ◌≤◌, Bool, true, false, cond, ◌||◌, List, [], ◌∷◌, ◌++◌, Option, Some, None, fold, length, refl, ap, ◌∙◌, inl, inr, arith}
+use Rattle.std.specs.List.{list_any}
 use Rattle.std.proofs.lemmas.Bool.{cases_Bool, or_parts}
 use Rattle.std.proofs.lemmas.List.Folds.{list_any-append}
 use Rattle.jm_cmds.specs.declared.history.Sent.{Sent}
@@ -10,7 +9,7 @@ use Rattle.jm_cmds.specs.declared.selection.ParamCommand.{ParamCommand}
 use Rattle.jm_cmds.specs.declared.selection.ParamCommand.TheVariants.{Select, Enter, Unselect, Clear, Pass}
 use Rattle.jm_cmds.specs.declared.selection.Selection.{Selection}
 use Rattle.jm_cmds.specs.Param.{same_param}
-use Rattle.jm_cmds.specs.Selection.{no_selection, selection_with, selection_after, selected_param, param_command}
+use Rattle.jm_cmds.specs.Selection.{no_selection, selection_after, selected_param, param_command}
 use Rattle.ch_param.specs.declared.events.ParamEvent.{ParamEvent}
 use Rattle.ch_param.specs.declared.events.ParamEvent.TheVariants.{Entry as Entered, Cleared, Other}
 use Rattle.ch_param.specs.Event.{Place, entry, param_event, placed, selection_step, event_at}

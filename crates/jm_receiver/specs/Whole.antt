@@ -1,5 +1,5 @@
 -- What holds of the state of every receiver, whatever it took.
-use Rattle.std.proofs.Common.{◌≡◌, ℕ, zero, suc, ◌+◌, ◌-◌, ◌%◌, ◌^◌, ◌<◌, ◌≤◌, Bool, true, false, not, cond, ◌||◌, eqb, List, [], ◌∷◌, ◌++◌, Option, Some, None, fold, drop, length, refl, sym, ap, ◌∙◌, subst, inl, inr, arith}
+use Rattle.std.proofs.Common.{◌≡◌, ℕ, zero, suc, ◌+◌, ◌-◌, ◌%◌, ◌^◌, ◌<◌, ◌≤◌, Bool, true, false, cond, ◌||◌, eqb, List, [], ◌∷◌, ◌++◌, Option, Some, None, fold, drop, length, refl, sym, ap, subst, inl, inr, arith}
 use Rattle.std.specs.Prelude.{is_some, Result, Ok, Err, filter}
 use Rattle.std.specs.List.{flat_map, AllByRecursion, IsDistinct}
 use Rattle.std.proofs.Math.Bool.{beq}
@@ -28,7 +28,7 @@ use Rattle.jm_state.specs.declared.entered.Halves.{Halves}
 use Rattle.jm_state.specs.declared.state.State.{State}
 use Rattle.jm_state.specs.Apply.{applied, selected_by}
 use Rattle.jm_state.specs.Entered.{half_set, halves_in, is_other, entered_with, latest}
-use Rattle.jm_state.specs.Parts.{no_state, nth_channel, sysex_count_of, toggles_of, pedal_of, selection_of, entered_of, with_program, with_toggles, with_param_high, with_param_low}
+use Rattle.jm_state.specs.Parts.{no_state, sysex_count_of, toggles_of, pedal_of, selection_of, entered_of, with_toggles}
 use Rattle.jm_state.specs.Says.{count_after, entered_if, entered_behind}
 use Rattle.jm_state.specs.Kept.{IsState, no_channel_at}
 use Rattle.jm_state.specs.KeptLaws.{no_state_is, state_after_is}
@@ -48,7 +48,7 @@ use Rattle.jm_receiver.specs.Accept.{Contents, opened, placed, repaired_using, h
 use Rattle.jm_receiver.specs.Group.{command_of, all_channels}
 use Rattle.jm_receiver.specs.Heard.{what_heard, sent_also, sent_all}
 use Rattle.jm_receiver.specs.Order.{in_order, with_log, session_done, repaired-fold, channel_log_is, session_log_is, message_is, high_is}
-use Rattle.jm_receiver.specs.ParamKeys.{keys_of, distinct_left, distinct_entered}
+use Rattle.jm_receiver.specs.ParamKeys.{keys_of, distinct_entered}
 use Rattle.jm_receiver.specs.ParamLogs.{put_left, high_in, low_in, half_in, param}
 use Rattle.jm_receiver.specs.Receiver.{Received}
 use Rattle.jm_receiver.specs.Repair.{has_reset, cleared, counts, with_message, messages_repaired, with_session_log, high_entered, low_entered, applied_if, with_channel_log, repaired}
