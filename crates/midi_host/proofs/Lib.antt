@@ -1,5 +1,6 @@
 pub mod TextLemmas
-pub mod PageLemmas
+pub mod LineReaderLemmas
 pub mod WroteLemmas
 pub mod Progress
-pub mod HexLemmas
+pub mod ConversationLemmas
+pub mod ReplayLemmas

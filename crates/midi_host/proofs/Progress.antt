@@ -1,20 +1,21 @@
 -- How far a run has come, and how it ends.
-use Rattle.std.proofs.Common.{◌≡◌, ◌≢◌, ℕ, ◌+◌, ◌<◌, ◌≤◌, length, true, false, List, [], ◌++◌, refl, ap, ◌∙◌, append_assoc, arith, IsTrue, IfSome}
+use Rattle.std.proofs.Common.{◌≡◌, ◌≢◌, ℕ, ◌+◌, ◌^◌, ◌<◌, ◌≤◌, length, length-append, true, false, List, [], ◌++◌, refl, ap, ◌∙◌, append_assoc, arith, IsTrue, IfSome}
 use Rattle.std.proofs.lemmas.List.{append-nil}
 use Rattle.std.specs.declared.option.Option.{Option}
 use Rattle.std.specs.declared.option.Option.TheVariants.{None, Some}
 use Rattle.std.specs.Option.{option_map}
 use Rattle.std.specs.Bool.{⊤}
-use Rattle.midi_host.specs.declared.verb.TheConstants.{MOST_LINES}
+use Rattle.midi_host.specs.declared.conversation.TheConstants.{MOST_LINES}
 use Rattle.midi_host.specs.declared.status.Status.{Status}
 use Rattle.midi_host.specs.declared.status.Status.TheVariants.{Done, Usage, BadScript, ReadFault, WriteFault, NoMemory}
 use Rattle.midi_host.specs.Text.{lines_of, is_whole, IsOfLine}
 use Rattle.midi_host.specs.Told.{Told, Lined, after, told_none, told_by}
 use Rattle.midi_host.specs.ToldBy.{told_by_few}
-use Rattle.midi_host.specs.Page.{Goes, Stops}
+use Rattle.midi_host.specs.LineReader.{Goes, Stops}
 use Rattle.jm_edge.specs.Faults.{Rose}
+use Rattle.jm_edge.specs.Source.{OneMore}
 use Rattle.midi_host.specs.Wrote.{Wrote, WrotePart}
-use Rattle.midi_host.specs.Ends.{Ends, Finishes, OnReadFault, OnWriteFault, IsFaultless, Completes, HasFewLines}
+use Rattle.midi_host.specs.Ends.{Ends, Finishes, OnReadFault, OnWriteFault, IsFaultless, Completes, HasFewLines, ReadsFew}
 use Rattle.midi_host.proofs.TextLemmas.{lines_of-none, is_whole-none, is_whole-append}
 use Rattle.midi_host.proofs.WroteLemmas.{Wrote-none, Wrote-next, WrotePart-next, WrotePart-more, WrotePart-front}
 
@@ -175,3 +176,35 @@ HasFewLines-from NoMemory longest lined state (Some input) left' wrote wrote' e 
 HasFewLines-from Usage longest lined state (Some input) left' wrote wrote' e = tt
 HasFewLines-from ReadFault longest lined state (Some input) left' wrote wrote' e = tt
 HasFewLines-from WriteFault longest lined state (Some input) left' wrote wrote' e = tt
+
+-- each read so far brought an octet at least, where the source tells what is left
+abbrev pub ReadSoFar : (left left' : Option (List ℕ)) → (reads reads' : ℕ) → Type 0
+ReadSoFar None left' reads reads' = ⊤
+ReadSoFar (Some input) None reads reads' = ⊥
+ReadSoFar (Some input) (Some rest) reads reads' = reads + length input + 1 < 2 ^ 64 → reads' + length rest ≤ reads + length input
+
+pub ReadSoFar-start : (left : Option (List ℕ)) (reads : ℕ) → ReadSoFar left left reads reads
+ReadSoFar-start None reads = tt
+ReadSoFar-start (Some input) reads = λ few. omega arith
+
+pub ReadSoFar-next : (piece : List ℕ) (left left' left'' : Option (List ℕ)) (reads reads' reads'' : ℕ) → ReadSoFar left left' reads reads' → left' ≡ option_map (λ rest. piece ++ rest) left'' → 1 ≤ length piece → OneMore reads' reads'' → ReadSoFar left left'' reads reads''
+ReadSoFar-next piece None left' left'' reads reads' reads'' s e some one = tt
+ReadSoFar-next piece (Some input) None left'' reads reads' reads'' s e some one = absurd s
+ReadSoFar-next piece (Some input) (Some rest) None reads reads' reads'' s e some one = cc
+ReadSoFar-next piece (Some input) (Some rest) (Some rest') reads reads' reads'' s e some one = λ few.
+    let before = s few in
+    let split : length rest ≡ length piece + length rest' = rw (some_same rest (piece ++ rest') e) (length-append piece rest') in
+    let more : reads'' ≡ reads' + 1 = one (omega (arith, before)) in
+    omega (arith, before, split, more, some)
+
+pub ReadsFew-last : (left left' : Option (List ℕ)) (reads reads' reads'' : ℕ) → ReadSoFar left left' reads reads' → OneMore reads' reads'' → ReadsFew left reads reads''
+ReadsFew-last None left' reads reads' reads'' s one = tt
+ReadsFew-last (Some input) None reads reads' reads'' s one = absurd s
+ReadsFew-last (Some input) (Some rest) reads reads' reads'' s one = λ few.
+    let before = s few in
+    let more : reads'' ≡ reads' + 1 = one (omega (arith, before)) in
+    omega (arith, before, more)
+
+pub ReadsFew-none : (left : Option (List ℕ)) (reads : ℕ) → ReadsFew left reads reads
+ReadsFew-none None reads = tt
+ReadsFew-none (Some input) reads = λ few. omega arith

@@ -1,8 +1,8 @@
 -- How a run ends: its status, what was read and what was written, for an input that the source tells.
-use Rattle.std.specs.Prelude.{◌≡◌, ℕ, ◌-◌, ◌^◌, ◌<◌, ◌≤◌, true, false, List, [], ◌++◌, Option, Some, IfSome, IsTrue, length, ⊤}
+use Rattle.std.specs.Prelude.{◌≡◌, ℕ, ◌+◌, ◌-◌, ◌^◌, ◌<◌, ◌≤◌, true, false, List, [], ◌++◌, Option, Some, IfSome, IsTrue, length, ⊤}
 use Rattle.midi_host.specs.declared.status.Status.{Status}
 use Rattle.midi_host.specs.declared.status.Status.TheVariants.{Done, Usage, BadScript, ReadFault, WriteFault, NoMemory}
-use Rattle.midi_host.specs.declared.verb.TheConstants.{MOST_LINES}
+use Rattle.midi_host.specs.declared.conversation.TheConstants.{MOST_LINES}
 use Rattle.midi_host.specs.Text.{lines_of, is_whole, IsOfLine}
 use Rattle.midi_host.specs.Told.{Told}
 use Rattle.midi_host.specs.Wrote.{Wrote, WrotePart}
@@ -64,3 +64,7 @@ Completes WriteFault told = ⊥
 abbrev pub HasFewLines : Status → List ℕ → Type 0
 HasFewLines Done input = length (lines_of input) ≤ MOST_LINES
 HasFewLines status input = ⊤
+
+-- Where the source tells its octets, each read but the last brought one at least. (Its count of reads stands still at its last value.)
+abbrev pub ReadsFew : (left : Option (List ℕ)) → (reads reads' : ℕ) → Type 0
+ReadsFew left reads reads' = IfSome left (λ input. reads + length input + 1 < 2 ^ 64 → reads' ≤ reads + length input + 1)

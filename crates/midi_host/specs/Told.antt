@@ -1,8 +1,13 @@
 -- What a script is answered: the lines of answers, up to the first line outside the grammar.
-use Rattle.std.specs.Prelude.{ℕ, ◌+◌, Bool, true, false, List, [], ◌∷◌, ◌++◌, length, codes, decimal, if◌then◌else◌, nat_le, nat_lt}
-use Rattle.midi_host.specs.declared.verb.Cause.{Cause}
-use Rattle.midi_host.specs.declared.verb.Cause.TheVariants.{Lines, TooLong, Word, Form, Command}
-use Rattle.midi_host.specs.declared.verb.TheConstants.{MOST_LINES}
+use Rattle.std.specs.Prelude.{ℕ, ◌+◌, Bool, true, false, List, [], ◌∷◌, ◌++◌, length, Result, Ok, Err, if◌then◌else◌, nat_le, nat_lt}
+use Rattle.jm_script.specs.declared.answer.AnswerLine.TheVariants.{BadScript}
+use Rattle.jm_script.specs.declared.answer.Cause.{Cause}
+use Rattle.jm_script.specs.declared.answer.Cause.TheVariants.{Lines, TooLong, Word, Form, Command}
+use Rattle.jm_script.specs.declared.line.Line.{Line}
+use Rattle.jm_script.specs.declared.line.LineFault.{LineFault}
+use Rattle.jm_script.specs.declared.line.LineFault.TheVariants as faults
+use Rattle.jm_script.specs.AnswerText.{answer_text}
+use Rattle.midi_host.specs.declared.conversation.TheConstants.{MOST_LINES}
 
 -- the text, and whether each line is in the grammar
 pub record Told : Type 0 where
@@ -17,17 +22,9 @@ after text told = record { text = text ++ told.text; good = told.good }
 abbrev pub told_none : Told
 told_none = record { text = []; good = true }
 
--- a cause as it is printed
-abbrev pub cause_word : Cause → List ℕ
-cause_word Lines = codes "lines"
-cause_word TooLong = codes "too-long"
-cause_word Word = codes "word"
-cause_word Form = codes "form"
-cause_word Command = codes "command"
-
 -- the last line of the text where the line of this number is outside the grammar
-unfoldable pub bad_line : ℕ → Cause → List ℕ
-bad_line number cause = codes "bad-script " ++ decimal number ++ codes " " ++ cause_word cause ++ codes "\n"
+abbrev pub bad_line : ℕ → Cause → List ℕ
+bad_line number cause = answer_text (BadScript number cause)
 
 -- the line of this number is outside the grammar
 abbrev pub told_bad : ℕ → Cause → Told
@@ -37,6 +34,17 @@ told_bad number cause = record { text = bad_line number cause; good = false }
 pub data Lined (State : Type 0) : Type 0 where
   taken : List ℕ → State → Lined State
   refused : Cause → Lined State
+
+-- the cause that a fault of the grammar is
+abbrev pub cause_of : LineFault → Cause
+cause_of faults.Word = Word
+cause_of faults.Form = Form
+cause_of faults.Command = Command
+
+-- what a verb makes of a line, by what it makes of one in its grammar
+abbrev pub lined_by : {State : Type 0} → (Line → Lined State) → Result Line LineFault → Lined State
+lined_by answered (Ok line) = answered line
+lined_by answered (Err fault) = refused (cause_of fault)
 
 -- the limits come first: of lines, and then of the octets of a line
 abbrev pub within_limits : {State : Type 0} → ℕ → ℕ → List ℕ → Lined State → Lined State

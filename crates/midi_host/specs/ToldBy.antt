@@ -4,12 +4,12 @@ use Rattle.std.specs.Prelude.{nat_le, nat_lt}
 use Rattle.std.specs.declared.result.Result.{Result}
 use Rattle.std.specs.declared.result.Result.TheVariants.{Ok, Err}
 use Rattle.std.proofs.lemmas.Bool.Decides.{nat_tests}
-use Rattle.midi_host.specs.declared.verb.Cause.TheVariants.{Lines, TooLong}
-use Rattle.midi_host.specs.declared.verb.Heard.{Heard}
-use Rattle.midi_host.specs.declared.verb.Heard.TheVariants.{Taken, Bad}
-use Rattle.midi_host.specs.declared.verb.TheConstants.{MOST_LINES}
+use Rattle.jm_script.specs.declared.answer.Cause.TheVariants.{Lines, TooLong}
+use Rattle.midi_host.specs.declared.conversation.LineOutcome.{LineOutcome}
+use Rattle.midi_host.specs.declared.conversation.LineOutcome.TheVariants.{Taken, Bad}
+use Rattle.midi_host.specs.declared.conversation.TheConstants.{MOST_LINES}
 use Rattle.midi_host.specs.Told.{Told, Lined, taken, refused, told_by, told_none, told_bad, after_line, within_limits}
-use Rattle.midi_host.specs.Heard.{Hears}
+use Rattle.midi_host.specs.Outcome.{Hears}
 use Rattle.midi_host.specs.Did.{Did}
 
 pub told_by_nothing : {State : Type 0} (longest : ℕ) (lined : State → List ℕ → Lined State) (before : ℕ) (state : State) → told_by longest lined before state [] ≡ told_none
@@ -43,7 +43,7 @@ told_by_line longest lined before state line lines few short =
     rw (told_by_more longest lined before state line lines, test, test') refl
 
 -- A verb that did what it makes of a line is heard.
-pub hears : {State E : Type 0} (longest : ℕ) (lined : State → List ℕ → Lined State) (before : ℕ) (state next : State) (line out out' : List ℕ) (result : Result Heard E)
+pub hears : {State E : Type 0} (longest : ℕ) (lined : State → List ℕ → Lined State) (before : ℕ) (state next : State) (line out out' : List ℕ) (result : Result LineOutcome E)
     → before < MOST_LINES → length line ≤ longest → Did result (lined state line) next out out'
     → Hears result before (told_by longest lined before state) (told_by longest lined (before + 1) next) line out out'
 hears longest lined before state next line out out' (Ok Taken) few short did = λ lines.

@@ -1,22 +1,24 @@
 //! The program: a verb's script is read from standard input, and its answers go to standard output.
 #![tactic(auto)]
 
+mod about;
 mod answering;
-mod page;
-mod print;
+mod answers;
+mod conversation;
+mod line_reader;
+mod players;
 mod read;
-mod read_print;
-mod read_words;
+mod repair;
 mod replay;
 mod room;
 mod run;
-mod script;
+mod session_answers;
+mod state_lines;
 mod status;
-mod verb;
 mod word;
-mod words;
 mod writing;
 
+use about::about;
 use jm_edge::{ReadSource, WriteSink};
 use run::run;
 use status::Status;
@@ -27,7 +29,7 @@ use std::process::ExitCode;
 use std::rt::Env;
 use word::Word;
 
-const USAGE: &str = "usage: midi_host replay|read";
+const USAGE: &str = "usage: midi_host replay|read|repair";
 
 // The words after the program's name.
 fn program_words(rt: &(impl Env + AllocGlobal)) -> io::Result<Vec<Word>> {
@@ -41,6 +43,12 @@ fn program_words(rt: &(impl Env + AllocGlobal)) -> io::Result<Vec<Word>> {
 fn main(rt: HostRuntime) -> ExitCode {
     let status = match program_words(&rt) {
         Ok(words) => {
+            if let Some(text) = about(words.as_slice()) {
+                return match print!(rt; "{text}") {
+                    Ok(()) => ExitCode::SUCCESS,
+                    Err(_) => ExitCode::from(Status::WriteFault.number()),
+                };
+            }
             let mut source = ReadSource::new(rt.stdin());
             let mut sink = WriteSink::new(rt.stdout());
             run(words.as_slice(), &mut source, &mut sink, rt.alloc())
@@ -54,5 +62,7 @@ fn main(rt: HostRuntime) -> ExitCode {
     ExitCode::from(status.number())
 }
 
+#[cfg(test)]
+mod loss_tests;
 #[cfg(test)]
 mod tests;

@@ -1,11 +1,12 @@
 // The top call of the verbs that read lines.
 ghost use Rattle.std.specs.Prelude.{◌≡◌, ◌≢◌, ◌≤◌, ◌↔◌, IfSome, None};
 ghost use Rattle.jm_edge.specs.Faults.{Rose};
-ghost use Rattle.midi_host.specs.Ends.{Ends, OnReadFault, OnWriteFault, IsFaultless, Completes, HasFewLines};
+ghost use Rattle.midi_host.specs.Ends.{Ends, OnReadFault, OnWriteFault, ReadsFew, IsFaultless, Completes, HasFewLines};
 ghost use Rattle.midi_host.specs.Run.{verb_named, verb_of, answer_to};
 
 use super::answering::answer_lines;
 use super::read::Read;
+use super::repair::Repair;
 use super::replay::Replay;
 use super::status::Status;
 use super::word::Word;
@@ -19,6 +20,8 @@ pub enum VerbWord {
     Replay,
     /// `read`: octets, each line for itself.
     Read,
+    /// `repair`: packets, which go to one receiver.
+    Repair,
 }
 
 // The verb that a word names.
@@ -30,6 +33,9 @@ fn verb_named(word: &[u8]) -> Option<VerbWord>
     }
     if word == b"read".as_slice() {
         return Some(VerbWord::Read);
+    }
+    if word == b"repair".as_slice() {
+        return Some(VerbWord::Repair);
     }
     None
 }
@@ -61,6 +67,7 @@ pub fn run<S: Source, K: Sink>(
         (K.written sink.new) }
     ensures reads_counted { S.faults source.old ≤ S.faults source.new }
     ensures writes_counted { K.faults sink.old ≤ K.faults sink.new }
+    ensures reads_few { ReadsFew (S.left source.old) (S.reads source.old) (S.reads source.new) }
     ensures read_rose { OnReadFault result (Rose (S.faults source.old) (S.faults source.new)) }
     ensures write_rose { OnWriteFault result (Rose (K.faults sink.old) (K.faults sink.new)) }
 
@@ -72,9 +79,15 @@ pub fn run<S: Source, K: Sink>(
 {
     match verb_of(words) {
         None => Status::Usage,
-        Some(VerbWord::Replay) => {
-            answer_lines(&mut Replay { session: None }, alloc, source, sink)
-        }
+        Some(VerbWord::Replay) => answer_lines(
+            &mut Replay::Opening { version: 1 },
+            alloc,
+            source,
+            sink,
+        ),
         Some(VerbWord::Read) => answer_lines(&mut Read {}, alloc, source, sink),
+        Some(VerbWord::Repair) => {
+            answer_lines(&mut Repair { receiver: None }, alloc, source, sink)
+        }
     }
 }

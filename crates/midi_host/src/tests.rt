@@ -1,4 +1,5 @@
 // Runs over memory, with faults of the source and the sink.
+use super::about::about;
 use super::run::run;
 use super::status::Status;
 use super::word::Word;
@@ -70,57 +71,57 @@ fn faults_have_their_statuses(rt: HostRuntime) -> Result<(), Fail> {
     Ok(())
 }
 
-/// Plays whose last word is an odd number of digits, another character, no whole command, and more than one.
-const BAD_PLAYS: [(&[u8], &[u8]); 5] = [
-    (
-        b"session 11223344 9\nenter\nplay 0 1 903c6\n",
-        b"session\nplayer 0\nbad-script 3 form\n",
-    ),
-    (
-        b"session 11223344 9\nenter\nplay 0 1 903cg4\n",
-        b"session\nplayer 0\nbad-script 3 form\n",
-    ),
-    (
-        b"session 11223344 9\nenter\nplay 0 1 903c\n",
-        b"session\nplayer 0\nbad-script 3 command\n",
-    ),
-    (
-        b"session 11223344 9\nenter\nplay 0 1 f00102\n",
-        b"session\nplayer 0\nbad-script 3 command\n",
-    ),
-    (
-        b"session 11223344 9\nenter\nplay 0 1 f00102f7f7\n",
-        b"session\nplayer 0\nbad-script 3 command\n",
-    ),
-];
+/// Players by name in a script of version 2: a name that enters twice, one that didn't enter, and a number.
+const NAMES: &[u8] =
+    b"script 2\nsession 11223344 4194304\nenter anna\nenter anna\nplay anna 100 903c64\nplay bert 100 903c64\nplay 0 100 903c00\n";
 
 #[test]
-fn bad_plays_are_no_want_of_memory(rt: HostRuntime) -> Result<(), Fail> {
-    for (script, text) in BAD_PLAYS {
-        assert_eq!(rt;
-            runs(rt.alloc(), script, &[], &[], text)?,
-            (Status::BadScript, true)
-        );
-    }
+fn names_stand_for_players(rt: HostRuntime) -> Result<(), Fail> {
+    let text =
+        b"script 2\nsession\nplayer 0 anna\nrefused name-taken anna\naccepted 0 kept\nrefused unknown-player\naccepted 1 kept\n";
+    assert_eq!(rt;
+        runs(rt.alloc(), NAMES, &[], &[], text)?,
+        (Status::Done, true)
+    );
     Ok(())
 }
 
-/// Commands and a section, and octets that are none.
-const OCTETS: &[u8] =
-    b"command 903c80\ncommand 903c\ncommand 3c\ncommand f4\ncommand f0010203f700\nsection 08903c6400f8003c00\nsection 04f00100f4\nsection 09903c6400f100003c00\nsection 05903c648080\nsection 06903c6400b080\npacket 80\n";
+// Whether this verb answers an input by this text, whose last line is bad.
+fn ends_bad(alloc: Global, verb: &str, input: &[u8], text: &[u8]) -> Result<bool, Fail> {
+    let words = [Word::new(verb, alloc)?];
+    let mut source = MemSource::new(alloc, input, &[])?;
+    let mut sink = MemSink::new(alloc, 512, &[])?;
+    let status = run(&words, &mut source, &mut sink, alloc);
+    Ok(status == Status::BadScript && sink.as_slice() == text)
+}
 
 #[test]
 fn octets_are_read(rt: HostRuntime) -> Result<(), Fail> {
+    let input =
+        b"command 903c80\nsection 08903c6400f8003c00\npacket 80610001000000c8112233444020000000070881f03ce4\nmessage ffff52531122334400070000\nstate\n";
     let text =
-        b"fault bad-data 2\nfault short\nfault data-octet\nfault bad-status 244\ncommand 5 f0010203f7\nsection 3 0:903c64 0:f8 0:903c00\nsection 1 0:part-cancel-2\nfault no-status 8\nfault bad-delta 4\nfault bad-command 5 bad-data 1\nbad-script 11 word\n";
-    let words = [Word::new("read", rt.alloc())?];
-    let mut source = MemSource::new(rt.alloc(), OCTETS, &[])?;
-    let mut sink = MemSink::new(rt.alloc(), 512, &[])?;
-    assert_eq!(rt;
-        run(&words, &mut source, &mut sink, rt.alloc()),
-        Status::BadScript
-    );
-    assert_eq!(rt; sink.as_slice(), text.as_slice());
+        b"fault bad-data 2\nsection 3 0:903c64 0:f8 0:903c00\npacket 1 200 11223344 0 journal 0 1\nmessage ffff52531122334400070000\nbad-script 5 word\n";
+    assert!(rt; ends_bad(rt.alloc(), "read", input, text)?);
+    Ok(())
+}
+
+#[test]
+fn packets_are_repaired(rt: HostRuntime) -> Result<(), Fail> {
+    let input =
+        b"state\npacket 80610001000000c8112233444020000000070881f03ce4\npacket 80610001000000c81122334400\nstate\nstate x\n";
+    let text =
+        b"end\ntook 1 0 1\nheard repaired 200 903c64\nolder 1\nnote 0 60 100\nend\nbad-script 5 form\n";
+    assert!(rt; ends_bad(rt.alloc(), "repair", input, text)?);
+    Ok(())
+}
+
+#[test]
+fn only_words_ask_for_help(rt: HostRuntime) -> Result<(), Fail> {
+    let help = [Word::new("--help", rt.alloc())?];
+    let version = [Word::new("--version", rt.alloc())?];
+    assert!(rt; about(&help).is_some() && about(&version).is_some());
+    let verb = [Word::new("read", rt.alloc())?];
+    assert!(rt; about(&verb).is_none());
     Ok(())
 }
 
