@@ -1,6 +1,5 @@
-// What no clause says: that the calls come to an end, by one thread and by two, and a worked session.
+// What no clause says: that the calls come to an end, and a worked session.
 ghost use Rattle.std.specs.Prelude.{◌≡◌, ◌≤◌, [], IfOk};
-ghost use Rattle.jm_turn.specs.declared.view.Kind.TheVariants.{Opening, Split};
 ghost use Rattle.jm_desk.specs.Sharing.{IsOf};
 
 use super::*;
@@ -16,8 +15,6 @@ use jm_wire::Octets;
 use std::alloc::Global;
 use std::sync::Wait;
 use std::test::*;
-use std::thread;
-use std::thread::Threads;
 
 // A call.
 #[derive(Clone, Copy)]
@@ -240,46 +237,5 @@ fn a_session_by_two_passes(rt: HostRuntime) -> Result<(), Fail> {
     assert_eq!(rt; desk.front(&mut other), 9);
     opening.join(&desk, other);
     assert_eq!(rt; desk.close(opening).len(), 7);
-    Ok(())
-}
-
-// One player enters.
-fn entered<R: Wait>(rt: &R, desk: &Desk, mut pass: Pass) -> Pass
-    requires { IsOf desk.now pass }
-    ensures own { IsOf desk.now result }
-    ensures same { (result.view.kind ≡ pass.view.kind) × (result.view.out ≡ pass.view.out) }
-{
-    let _ = desk.enter(rt, &mut pass);
-    pass
-}
-
-// Two threads, each with a pass.
-fn two<R: Threads + Wait + Sync>(rt: &R, desk: Desk, mut opening: Pass) -> usize
-    requires own { IsOf desk opening }
-    requires start { (opening.view.kind ≡ Opening) × (opening.view.out ≡ 0) }
-{
-    let other = opening.split(&desk);
-    let shared = &desk;
-    let (mut opening, other) = thread::join(
-        rt,
-        move || -> Pass
-            requires { IsOf shared.now opening }
-            ensures own { IsOf shared.entry.now result }
-            ensures same { (result.view.kind ≡ opening.view.kind) × (result.view.out ≡ opening.view.out) }
-        { entered(rt, shared, opening) },
-        move || -> Pass
-            requires { IsOf shared.now other }
-            ensures own { IsOf shared.entry.now result }
-            ensures same { (result.view.kind ≡ other.view.kind) × (result.view.out ≡ other.view.out) }
-        { entered(rt, shared, other) },
-    );
-    opening.join(&desk, other);
-    desk.close(opening).len()
-}
-
-#[test]
-fn two_threads_enter(rt: HostRuntime) -> Result<(), Fail> {
-    let (desk, opening) = Desk::new(new_book(2, rt.alloc())?, rt.alloc())?;
-    assert_eq!(rt; two(&rt, desk, opening), 2);
     Ok(())
 }

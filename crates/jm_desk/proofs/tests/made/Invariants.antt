@@ -4,4 +4,4 @@ use Rattle.jm_desk.proofs.tests.made.Given as goal
 
 abbrev pub invariant-loop-line : goal.invariant-loop-line
 invariant-loop-line g l =
-    IsOf l.fn.desk.now l.pass × (l.pass.view.kind ≡ l.initial.pass.view.kind) × (l.pass.view.out ≡ l.initial.pass.view.out)
+    IsOf l.fn.desk l.pass × (l.pass.view.kind ≡ l.initial.pass.view.kind) × (l.pass.view.out ≡ l.initial.pass.view.out)
