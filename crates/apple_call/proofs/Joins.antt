@@ -20,7 +20,7 @@ use Rattle.apple_invite.specs.declared.stage.Stage.TheVariants.{Fresh, AskCtl, A
 use Rattle.apple_invite.specs.Calls.{after_call, after}
 use Rattle.apple_call.specs.Exchange.{Sending, went, lost, letters, taken, IsQuietAtEnd, Exchanges, Breaks}
 use Rattle.apple_invite.specs.declared.dialed.Dialed.{Dialed}
-use Rattle.apple_call.specs.Turns.{letters_on, letters_of, clocks_by, clocks_of, message_of, hearing, Turn, first_calls, turn_calls, calls_of, moments_of, control_givens, data_givens, Posts, Goes, Does, AreFirst, behind, Gave, Scene, Plays, MadeAll, ControlBroke, DataBroke}
+use Rattle.apple_call.specs.Turns.{letters_on, letters_of, clocks_by, clocks_of, message_of, hearing, Turn, first_calls, turn_calls, calls_of, moments_of, control_givens, data_givens, Posts, Goes, Does, AreFirst, coming_behind, Gave, Scene, Plays, MadeAll, ControlBroke, DataBroke}
 
 -- ---- lists
 
@@ -263,41 +263,41 @@ does_data to caller givens a c d e = record { caller_is = refl; clocks_are = ref
 
 -- ---- the clock
 
-first-append : (xs ys : List ℕ) (coming : ℕ → ℕ) → AreFirst xs coming → AreFirst ys (behind xs coming) → AreFirst (xs ++ ys) coming
+first-append : (xs ys : List ℕ) (coming : ℕ → ℕ) → AreFirst xs coming → AreFirst ys (coming_behind xs coming) → AreFirst (xs ++ ys) coming
 first-append [] ys coming first second = second
 first-append (x ∷ xs) ys coming first second = (first.0, first-append xs ys (later coming) first.1 second)
 
-behind-append : (xs ys : List ℕ) (coming : ℕ → ℕ) → behind (xs ++ ys) coming ≡ behind ys (behind xs coming)
-behind-append [] ys coming = refl
-behind-append (x ∷ xs) ys coming = behind-append xs ys (later coming)
+coming_behind-append : (xs ys : List ℕ) (coming : ℕ → ℕ) → coming_behind (xs ++ ys) coming ≡ coming_behind ys (coming_behind xs coming)
+coming_behind-append [] ys coming = refl
+coming_behind-append (x ∷ xs) ys coming = coming_behind-append xs ys (later coming)
 
-first-then : (xs ys : List ℕ) (old middle : Option (ℕ → ℕ)) → middle ≡ option_map (behind xs) old → IfSome old (AreFirst xs) → IfSome middle (AreFirst ys) → IfSome old (AreFirst (xs ++ ys))
+first-then : (xs ys : List ℕ) (old middle : Option (ℕ → ℕ)) → middle ≡ option_map (coming_behind xs) old → IfSome old (AreFirst xs) → IfSome middle (AreFirst ys) → IfSome old (AreFirst (xs ++ ys))
 first-then xs ys None middle e first second = tt
 first-then xs ys (Some coming) middle e first second =
     first-append xs ys coming first (subst (λ (o : Option (ℕ → ℕ)). IfSome o (AreFirst ys)) e second)
 
-others-then : (xs ys : List ℕ) (old : Option (ℕ → ℕ)) → option_map (behind ys) (option_map (behind xs) old) ≡ option_map (behind (xs ++ ys)) old
+others-then : (xs ys : List ℕ) (old : Option (ℕ → ℕ)) → option_map (coming_behind ys) (option_map (coming_behind xs) old) ≡ option_map (coming_behind (xs ++ ys)) old
 others-then xs ys None = refl
-others-then xs ys (Some coming) = ap (λ (k : ℕ → ℕ). Some k) (sym (behind-append xs ys coming))
+others-then xs ys (Some coming) = ap (λ (k : ℕ → ℕ). Some k) (sym (coming_behind-append xs ys coming))
 
 pub gave-then : {xs ys : List ℕ} {old middle new : Option (ℕ → ℕ)} → Gave xs old middle → Gave ys middle new → Gave (xs ++ ys) old new
 gave-then {xs} {ys} {old} {middle} {new} first second = record {
   first = first-then xs ys old middle first.others first.first second.first;
-  others = second.others ∙ ap (λ (o : Option (ℕ → ℕ)). option_map (behind ys) o) first.others ∙ others-then xs ys old;
+  others = second.others ∙ ap (λ (o : Option (ℕ → ℕ)). option_map (coming_behind ys) o) first.others ∙ others-then xs ys old;
 }
 
 gave_first : (moment : ℕ) (old : Option (ℕ → ℕ)) → IfSome old (λ coming. moment ≡ coming 0) → IfSome old (AreFirst (moment ∷ []))
 gave_first moment None h = tt
 gave_first moment (Some coming) h = (h, tt)
 
-gave_others : (moment : ℕ) (old : Option (ℕ → ℕ)) → option_map later old ≡ option_map (behind (moment ∷ [])) old
+gave_others : (moment : ℕ) (old : Option (ℕ → ℕ)) → option_map later old ≡ option_map (coming_behind (moment ∷ [])) old
 gave_others moment None = refl
 gave_others moment (Some coming) = refl
 
 pub gave_one : (moment : ℕ) (old new : Option (ℕ → ℕ)) → Ticks moment old new → Gave (moment ∷ []) old new
 gave_one moment old new t = record { first = gave_first moment old t.first; others = t.others ∙ gave_others moment old }
 
-gave_same : (old : Option (ℕ → ℕ)) → old ≡ option_map (behind []) old
+gave_same : (old : Option (ℕ → ℕ)) → old ≡ option_map (coming_behind []) old
 gave_same None = refl
 gave_same (Some coming) = refl
 

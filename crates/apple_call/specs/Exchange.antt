@@ -27,13 +27,13 @@ taken [] = []
 taken (Some letter ∷ givens) = letter ∷ taken givens
 taken (None ∷ givens) = taken givens
 
--- where a receive gave none, none came behind it and none is left
+-- where a receive gave none, none came coming_behind it and none is left
 abbrev pub IsQuietAtEnd : List (Option Letter) → (left : List Letter) → Type 0
 IsQuietAtEnd [] left = Unit {0}
 IsQuietAtEnd (Some letter ∷ givens) left = IsQuietAtEnd givens left
 IsQuietAtEnd (None ∷ givens) left = taken givens ++ left ≡ []
 
--- Where the port tells it, the datagrams that were taken stood at the front of those arriving, and what went out stands behind
+-- Where the port tells it, the datagrams that were taken stood at the front of those arriving, and what went out stands coming_behind
 -- what had. At most as many sends are missing as the count of failed ones rose.
 pub record Exchanges (givens : List (Option Letter)) (sendings : List Sending) (old new : Wire) : Type 0 where
   pub takes : old.arriving ≡ option_map (λ rest. taken givens ++ rest) new.arriving

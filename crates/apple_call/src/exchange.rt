@@ -14,6 +14,7 @@ pub fn post<P: Port>(port: &mut P, to: Addr, message: &Message, out: &mut Octets
     ensures room { 80 ≤ out.new.spare + length out.new.octets }
     ensures posts { Exchanges [] (record { letter = record { addr = to; octets = text message.now }; is_lost = result } ∷ []) (P.wire port.old) (P.wire port.new) }
 {
+    // For the prover, which learns by it how long the text is.
     let _len = message.written_len();
     out.clear();
     write_message(message, out);

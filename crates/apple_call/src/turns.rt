@@ -20,7 +20,7 @@ use jm_wire::Octets;
 pub enum TurnsEnd {
     /// All were made.
     Made,
-    /// A receive of the control port failed, and with it the turn and those behind it ended.
+    /// A receive of the control port failed, and with it the turn and those coming_behind it ended.
     ControlFailed,
     /// A receive of the data port did.
     DataFailed,

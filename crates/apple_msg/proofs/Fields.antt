@@ -8,7 +8,7 @@ use Rattle.std.proofs.lemmas.Nat.{be_bytes_2, be_bytes_4, be_bytes_8, from_be_by
 use Rattle.apple_msg.specs.declared.message.MsgFault.{MsgFault}
 use Rattle.apple_msg.specs.declared.message.MsgFault.TheVariants.{Short}
 use Rattle.jm_wire.specs.Readers.{◌>>=◌}
-use Rattle.apple_msg.specs.Reading.{number_at, octet_at, behind}
+use Rattle.apple_msg.specs.Reading.{number_at, octet_at, behind_octets}
 use Rattle.apple_msg.specs.Grammar.{AreOctets}
 
 AreOctets-drop : (n : ℕ) (octets : List ℕ) → AreOctets octets → AreOctets (drop n octets)
@@ -111,7 +111,7 @@ pub record Skips (size : ℕ) (octets rest : List ℕ) : Type 0 where
   pub parts : octets ≡ ignored ++ rest
   pub rest_octets : AreOctets rest
 
-pub behind_cases : (size : ℕ) (octets : List ℕ) → AreOctets octets → MatchResult (behind size octets) (Skips size octets) (IsShort octets size)
+pub behind_cases : (size : ℕ) (octets : List ℕ) → AreOctets octets → MatchResult (behind_octets size octets) (Skips size octets) (IsShort octets size)
 behind_cases size octets fits =
     elim (cases_lt (length octets) size) [
       | inl lt ↦ rw (lt-ltb _ _ lt) (record { fault = refl; few = lt })
@@ -123,15 +123,15 @@ behind_cases size octets fits =
       })
     ]
 
-pub behind_again : (ignored rest : List ℕ) (size : ℕ) → length ignored ≡ size → behind size (ignored ++ rest) ≡ Ok rest
+pub behind_again : (ignored rest : List ℕ) (size : ℕ) → length ignored ≡ size → behind_octets size (ignored ++ rest) ≡ Ok rest
 behind_again ignored rest size len =
     let long : ltb (length (ignored ++ rest)) size ≡ false = le-ltb _ _ (omega (arith, length-append ignored rest)) in
     rw (long, drop_at ignored rest size len) refl
 
-pub behind_short : (size : ℕ) (octets : List ℕ) → length octets < size → behind size octets ≡ Err Short
+pub behind_short : (size : ℕ) (octets : List ℕ) → length octets < size → behind_octets size octets ≡ Err Short
 behind_short size octets lt = rw (lt-ltb (length octets) size lt) refl
 
-pub behind_long : (size : ℕ) (octets : List ℕ) → size ≤ length octets → behind size octets ≡ Ok (drop size octets)
+pub behind_long : (size : ℕ) (octets : List ℕ) → size ≤ length octets → behind_octets size octets ≡ Ok (drop size octets)
 behind_long size octets le = rw (le-ltb (length octets) size le) refl
 
 -- ---- an octet

@@ -8,7 +8,7 @@ use Rattle.apple_msg.specs.declared.message.Message.TheVariants.{Bye, Clock, Fee
 use Rattle.apple_msg.specs.declared.message.MsgFault.{MsgFault}
 use Rattle.apple_msg.specs.declared.message.MsgFault.TheVariants.{Short}
 use Rattle.jm_wire.specs.Readers.{◌>>=◌}
-use Rattle.apple_msg.specs.Reading.{number_at, octet_at, behind, header_at, bye_at, clock_at, feedback_at}
+use Rattle.apple_msg.specs.Reading.{number_at, octet_at, behind_octets, header_at, bye_at, clock_at, feedback_at}
 use Rattle.apple_msg.specs.Spelling.{marked, header}
 use Rattle.apple_msg.specs.Grammar.{AreOctets, Spells}
 use Rattle.apple_msg.proofs.Fields.{match_bind, wide16, wide32, wide64, IsShort, TakesNumber, number_cases, number_again, number_long, number_short, Skips, behind_cases, behind_again, behind_short, behind_long, octet_cases}
@@ -39,12 +39,12 @@ pub feedback_cases : (octets rest : List ℕ) → octets ≡ marked 82 83 rest �
 unfolding feedback_at
 feedback_cases octets rest of fits =
     match_bind (TakesNumber w32 (2 ^ 32) rest) (IsShort rest 4) (Spells octets) (IsShort rest 8) (number_at w32 rest)
-    (λ ssrc. number_at w16 ssrc.1 >>= λ seq. behind 2 seq.1 >>= λ spare. Ok (Feedback ssrc.0 seq.0))
+    (λ ssrc. number_at w16 ssrc.1 >>= λ seq. behind_octets 2 seq.1 >>= λ spare. Ok (Feedback ssrc.0 seq.0))
     (number_cases w32 (2 ^ 32) wide32 rest fits)
     (λ ssrc s. match_bind (TakesNumber w16 (2 ^ 16) ssrc.1) (IsShort ssrc.1 2) (Spells octets) (IsShort rest 8) (number_at w16 ssrc.1)
-    (λ seq. behind 2 seq.1 >>= λ spare. Ok (Feedback ssrc.0 seq.0))
+    (λ seq. behind_octets 2 seq.1 >>= λ spare. Ok (Feedback ssrc.0 seq.0))
     (number_cases w16 (2 ^ 16) wide16 ssrc.1 s.rest_octets)
-    (λ seq q. match_bind (Skips 2 seq.1) (IsShort seq.1 2) (Spells octets) (IsShort rest 8) (behind 2 seq.1)
+    (λ seq q. match_bind (Skips 2 seq.1) (IsShort seq.1 2) (Spells octets) (IsShort rest 8) (behind_octets 2 seq.1)
     (λ spare. Ok (Feedback ssrc.0 seq.0))
     (behind_cases 2 seq.1 q.rest_octets)
     (λ spare k. record {
@@ -80,7 +80,7 @@ feedback_short octets lt =
 
 -- ---- clocks
 
--- the octets of a clock behind its letters
+-- the octets of a clock behind_octets its letters
 abbrev clock_fields : ℕ → ℕ → List ℕ → ℕ → ℕ → ℕ → List ℕ → List ℕ
 clock_fields ssrc count ignored first second third spare =
     to_be_bytes w32 ssrc ++ (count ∷ (ignored ++ (to_be_bytes w64 first ++ (to_be_bytes w64 second ++ (to_be_bytes w64 third ++ spare)))))
@@ -89,14 +89,14 @@ pub clock_cases : (octets rest : List ℕ) → octets ≡ marked 67 75 rest → 
 unfolding clock_at
 clock_cases octets rest of fits =
     match_bind (TakesNumber w32 (2 ^ 32) rest) (IsShort rest 4) (Spells octets) (IsShort rest 32) (number_at w32 rest)
-    (λ ssrc. octet_at ssrc.1 >>= λ count. behind 3 count.1 >>= λ after. number_at w64 after >>= λ first. number_at w64 first.1 >>= λ second. number_at w64 second.1 >>= λ third. Ok (Clock ssrc.0 count.0 (first.0 ∷ second.0 ∷ third.0 ∷ [])))
+    (λ ssrc. octet_at ssrc.1 >>= λ count. behind_octets 3 count.1 >>= λ after. number_at w64 after >>= λ first. number_at w64 first.1 >>= λ second. number_at w64 second.1 >>= λ third. Ok (Clock ssrc.0 count.0 (first.0 ∷ second.0 ∷ third.0 ∷ [])))
     (number_cases w32 (2 ^ 32) wide32 rest fits)
     (λ ssrc s. match_bind (λ (x : ℕ × List ℕ). (ssrc.1 ≡ x.0 ∷ x.1) × AreOctets x.1) (IsShort ssrc.1 1) (Spells octets) (IsShort rest 32) (octet_at ssrc.1)
-    (λ count. behind 3 count.1 >>= λ after. number_at w64 after >>= λ first. number_at w64 first.1 >>= λ second. number_at w64 second.1 >>= λ third. Ok (Clock ssrc.0 count.0 (first.0 ∷ second.0 ∷ third.0 ∷ [])))
+    (λ count. behind_octets 3 count.1 >>= λ after. number_at w64 after >>= λ first. number_at w64 first.1 >>= λ second. number_at w64 second.1 >>= λ third. Ok (Clock ssrc.0 count.0 (first.0 ∷ second.0 ∷ third.0 ∷ [])))
     (octet_cases ssrc.1 s.rest_octets)
     (λ count n.
     let sized : length ssrc.1 ≡ 1 + length count.1 = omega (arith, ap length n.0) in
-    match_bind (Skips 3 count.1) (IsShort count.1 3) (Spells octets) (IsShort rest 32) (behind 3 count.1)
+    match_bind (Skips 3 count.1) (IsShort count.1 3) (Spells octets) (IsShort rest 32) (behind_octets 3 count.1)
     (λ after. number_at w64 after >>= λ first. number_at w64 first.1 >>= λ second. number_at w64 second.1 >>= λ third. Ok (Clock ssrc.0 count.0 (first.0 ∷ second.0 ∷ third.0 ∷ [])))
     (behind_cases 3 count.1 n.1)
     (λ after k.
@@ -154,7 +154,7 @@ times_short ssrc count octets lt =
     ]
 
 count_short : (ssrc : ℕ) (octets : List ℕ) → length octets < 28
-    → (octet_at octets >>= λ count. behind 3 count.1 >>= λ after. number_at w64 after >>= λ first. number_at w64 first.1 >>= λ second. number_at w64 second.1 >>= λ third. Ok (Clock ssrc count.0 (first.0 ∷ second.0 ∷ third.0 ∷ []))) ≡ Err Short
+    → (octet_at octets >>= λ count. behind_octets 3 count.1 >>= λ after. number_at w64 after >>= λ first. number_at w64 first.1 >>= λ second. number_at w64 second.1 >>= λ third. Ok (Clock ssrc count.0 (first.0 ∷ second.0 ∷ third.0 ∷ []))) ≡ Err Short
 count_short ssrc [] lt = refl
 count_short ssrc (count ∷ octets) lt =
     elim (cases_lt (length octets) 3) [

@@ -18,7 +18,7 @@ use Rattle.apple_msg.proofs.Fields.{match_bind, wide32, IsShort, TakesNumber, nu
 
 -- ---- version, token and SSRC
 
--- what stands behind a version of 2
+-- what stands behind_octets a version of 2
 pub record TakesHeader (octets : List ℕ) (x : ℕ × ℕ × List ℕ) : Type 0 where
   pub token_fits : x.0 < 2 ^ 32
   pub ssrc_fits : x.1 < 2 ^ 32

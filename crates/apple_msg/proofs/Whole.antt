@@ -88,7 +88,7 @@ letters_of first second verb e =
       ]
     ]
 
--- the octets behind letters that are known
+-- the octets behind_octets letters that are known
 behind_letters : (octets rest : List ℕ) (verb : Verb) → IsOf octets verb rest → octets ≡ marked (first_letter verb) (second_letter verb) rest
 behind_letters octets rest verb of =
     let l = letters_of of.first of.second verb of.known in
@@ -162,7 +162,7 @@ mark_cases (a ∷ b ∷ rest) =
       ] refl
     ] refl
 
--- two letters of a message, and the octets behind them
+-- two letters of a message, and the octets behind_octets them
 record TakesVerb (octets : List ℕ) (x : Verb × List ℕ) : Type 0 where
   first : ℕ
   second : ℕ

@@ -84,7 +84,7 @@ Spells octets RateLimit = SpellsRateLimit octets
 
 -- ---- faults
 
--- how many octets stand behind the letters at least
+-- how many octets stand behind_octets the letters at least
 abbrev pub fixed : Verb → ℕ
 fixed verbs.Invite = 12
 fixed verbs.Accept = 12
@@ -119,7 +119,7 @@ pub record EndsInVerb (octets : List ℕ) : Type 0 where
   pub parts : octets ≡ 255 ∷ 255 ∷ rest
   pub few : length rest < 2
 
--- the letters of a message, and the octets behind them
+-- the letters of a message, and the octets behind_octets them
 pub record IsOf (octets : List ℕ) (verb : Verb) (rest : List ℕ) : Type 0 where
   pub first : ℕ
   pub second : ℕ

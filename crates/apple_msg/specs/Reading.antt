@@ -15,7 +15,7 @@ abbrev pub Gives : {X Y : Type 0} → (X → Y) → Result X MsgFault → Result
 Gives view (Ok x) read = read ≡ Ok (view x)
 Gives view (Err e) read = read ≡ Err e
 
--- ---- fields: a value and the octets behind it
+-- ---- fields: a value and the octets behind_octets it
 
 abbrev pub number_at : Width → List ℕ → Result (ℕ × List ℕ) MsgFault
 number_at w octets = if nat_lt (length octets) (byte_len w) then Err Short else Ok (from_be_bytes w (take (byte_len w) octets), drop (byte_len w) octets)
@@ -24,8 +24,8 @@ abbrev pub octet_at : List ℕ → Result (ℕ × List ℕ) MsgFault
 octet_at [] = Err Short
 octet_at (octet ∷ rest) = Ok (octet, rest)
 
-abbrev pub behind : (count : ℕ) (octets : List ℕ) → Result (List ℕ) MsgFault
-behind count octets = if nat_lt (length octets) count then Err Short else Ok (drop count octets)
+abbrev pub behind_octets : (count : ℕ) (octets : List ℕ) → Result (List ℕ) MsgFault
+behind_octets count octets = if nat_lt (length octets) count then Err Short else Ok (drop count octets)
 
 -- ---- what begins every message
 
@@ -93,7 +93,7 @@ unfoldable pub clock_at : List ℕ → Result Message MsgFault
 clock_at octets = do
   ssrc ← number_at w32 octets
   count ← octet_at ssrc.1
-  rest ← behind 3 count.1
+  rest ← behind_octets 3 count.1
   first ← number_at w64 rest
   second ← number_at w64 first.1
   third ← number_at w64 second.1
@@ -104,7 +104,7 @@ unfoldable pub feedback_at : List ℕ → Result Message MsgFault
 feedback_at octets = do
   ssrc ← number_at w32 octets
   seq ← number_at w16 ssrc.1
-  rest ← behind 2 seq.1
+  rest ← behind_octets 2 seq.1
   Ok (Feedback ssrc.0 seq.0)
 
 abbrev pub read_as : Verb → List ℕ → Result Message MsgFault

@@ -2,7 +2,7 @@
 
 ghost use Rattle.apple_msg.specs.Grammar.{MessagesReadBack, ReadsWhatIsSpelled, ReadsFirstFault};
 
-/// A message that was written is read again, whatever octets stand behind it.
+/// A message that was written is read again, whatever octets stand behind_octets it.
 pub fn messages_read_back()
     ensures { MessagesReadBack }
 {}

@@ -92,7 +92,7 @@ pub enum MsgFault {
     /// FF FF does not stand at the front.
     #[error("not an AppleMIDI message")]
     NotApple,
-    /// The two octets behind FF FF are there, and are not the letters of a message.
+    /// The two octets behind_octets FF FF are there, and are not the letters of a message.
     #[error("unknown verb")]
     UnknownVerb,
     /// The octets end before the fixed part does.

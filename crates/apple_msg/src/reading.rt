@@ -2,7 +2,7 @@
 
 ghost use Rattle.std.specs.Prelude.{◌≡◌, ◌≢◌, ◌<◌, ◌≤◌, length, take, position, All, IfSome, Ok, Err, MatchResult};
 ghost use Rattle.std.specs.Int.{w16, w32, w64};
-ghost use Rattle.apple_msg.specs.Reading.{Gives, behind_mark, verb_of, verb_at, is_end, number_at, octet_at, behind, name_at, header_at, invitation_at, bye_at, clock_at, feedback_at, read_as, read};
+ghost use Rattle.apple_msg.specs.Reading.{Gives, behind_mark, verb_of, verb_at, is_end, number_at, octet_at, behind_octets, name_at, header_at, invitation_at, bye_at, clock_at, feedback_at, read_as, read};
 ghost use Rattle.apple_msg.specs.Grammar.{Spells, IsFirstFault};
 ghost use Rattle.apple_msg.specs.declared.message.Message.{Message};
 ghost use Rattle.apple_msg.specs.declared.message.MsgFault.{MsgFault};
@@ -57,9 +57,9 @@ fn octet_at(octets: &[u8]) -> Result<(u8, &[u8]), MsgFault>
     }
 }
 
-/// The octets behind the first `count`, which are not looked at.
-fn behind(count: usize, octets: &[u8]) -> Result<&[u8], MsgFault>
-    ensures { Gives (λ x. x.now) result (behind count octets.now) }
+/// The octets behind_octets the first `count`, which are not looked at.
+fn behind_octets(count: usize, octets: &[u8]) -> Result<&[u8], MsgFault>
+    ensures { Gives (λ x. x.now) result (behind_octets count octets.now) }
 {
     if octets.len() < count {
         return Err(MsgFault::Short);
@@ -103,7 +103,7 @@ fn verb_at(octets: &[u8]) -> Result<(Verb, &[u8]), MsgFault>
     }
 }
 
-/// The token and the SSRC behind a version of 2.
+/// The token and the SSRC behind_octets a version of 2.
 #[tactic(auto, unfolding(crate::specs::Reading::header_at))]
 fn header_at(octets: &[u8]) -> Result<(u32, u32, &[u8]), MsgFault>
     ensures { Gives (λ x. (x.0, x.1, x.2.now)) result (header_at octets.now) }
@@ -162,7 +162,7 @@ fn clock_at(octets: &[u8]) -> Result<Message, MsgFault>
 {
     let (ssrc, rest) = u32_at(octets)?;
     let (count, rest) = octet_at(rest)?;
-    let rest = behind(3, rest)?;
+    let rest = behind_octets(3, rest)?;
     let (first, rest) = u64_at(rest)?;
     let (second, rest) = u64_at(rest)?;
     let (third, _rest) = u64_at(rest)?;
@@ -179,7 +179,7 @@ fn feedback_at(octets: &[u8]) -> Result<Message, MsgFault>
 {
     let (ssrc, rest) = u32_at(octets)?;
     let (seq, rest) = u16_at(rest)?;
-    let _rest = behind(2, rest)?;
+    let _rest = behind_octets(2, rest)?;
     Ok(Message::Feedback { ssrc, seq })
 }
 
@@ -215,8 +215,8 @@ fn whole(octets: &[u8]) -> Result<Message, MsgFault>
     read_as(verb, rest)
 }
 
-/// The message at the front of these octets, or the first fault in the order of [`MsgFault`]. Octets behind
-/// the 0 of a name or behind a fixed form are not looked at.
+/// The message at the front of these octets, or the first fault in the order of [`MsgFault`]. Octets behind_octets
+/// the 0 of a name or behind_octets a fixed form are not looked at.
 pub fn read_message(b: &[u8]) -> Result<Message, MsgFault>
     // What is read is spelled so, and a fault is the first that holds.
     ensures reads { MatchResult result (Spells b.now) (IsFirstFault b.now) }

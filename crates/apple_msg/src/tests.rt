@@ -102,7 +102,7 @@ fn faults(rt: HostRuntime) {
 }
 
 /// Octets, and what is written of the message that they spell: what a reader does not look at is 0 there, and
-/// nothing stands behind it.
+/// nothing stands behind_octets it.
 const PASSED_OVER: [(&[u8], &[u8]); 7] = [
     (
         b"\xFF\xFFIN\x00\x00\x00\x02\x01\x02\x03\x04\x00\x00\x00\x22a\x00b\x00",

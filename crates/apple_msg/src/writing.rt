@@ -56,7 +56,7 @@ impl Message {
     }
 }
 
-/// Appends the octets of a message: FF FF, its letters and its fields, and 0 behind a name. What a reader
+/// Appends the octets of a message: FF FF, its letters and its fields, and 0 behind_octets a name. What a reader
 /// does not look at is written 0.
 pub fn write_message(m: &Message, out: &mut Octets)
     requires { length (text m.now) ≤ out.old.spare }

@@ -53,6 +53,7 @@ pub fn control_event(command: &Command, channel: Channel) -> ControlEvent
             value,
         } => {
             if *at == channel && !is_entry(*number) {
+                // For the prover, which learns its range by this.
                 let _number = number.get();
                 return ControlEvent::Set {
                     number: *number,

@@ -18,7 +18,8 @@ is_struck (Released note velocity) = false
 is_struck Cleared = false
 is_struck Other = false
 
--- The Y bit as the high bit of an octet: the note is worth playing while it is at most 2,000 ticks old.
+-- The Y bit as the high bit of an octet: the note is worth playing while it is at most 2,000 ticks old (this project's own
+-- number; RFC 6295, A.6.1 leaves it free).
 abbrev pub y_bit : (tick : ℕ) → Sent → ℕ
 y_bit tick place = if nat_le tick (place.tick + 2000) then 128 else 0
 
@@ -86,7 +87,8 @@ released_fresh channel packet places = list_any (λ place. is_released (event_at
 abbrev pub high_field : (count : ℕ) → (notes : List ℕ) → ℕ
 high_field count notes = if length notes == 0 && count == 127 then 1 else high_octet notes
 
--- The header: B is 0 where a released note is of the packet before, and LEN is the number of logs, of which 128 are told
+-- The header. B is this project's own by the released notes whose bits are written, where RFC 6295, A.6.1 goes by any note
+-- off of the channel: it is 0 where a released note is of the packet before, and LEN is the number of logs, of which 128 are told
 -- as 127.
 abbrev pub note_head : (channel packet : ℕ) → List Sent → NoteHead
 note_head channel packet places = record {

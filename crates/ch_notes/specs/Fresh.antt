@@ -10,7 +10,7 @@ use Rattle.ch_notes.specs.ChapterA.{chapter_a, fresh_a}
 use Rattle.jm_chapter.specs.Logs.{log_shows_fresh}
 
 -- the number of logs: LEN, but 128 where LEN is 127, LOW 15 and HIGH 0
-abbrev pub log_number : ℕ → ℕ → ℕ
+abbrev pub log_number : (first second : ℕ) → ℕ
 log_number first second = if first % 128 == 127 && second == 0xf0 then 128 else first % 128
 
 -- whether the S bit of one of the first logs is 0

@@ -32,6 +32,7 @@ pub fn note_event(command: &Command, channel: Channel) -> NoteEvent
             velocity,
         } if *at == channel => {
             let (note, velocity) = (*note, *velocity);
+            // For the prover, which learns its range by this.
             let _note = note.get();
             if velocity.get() == 0 {
                 let velocity = D7::low(64);
@@ -44,6 +45,7 @@ pub fn note_event(command: &Command, channel: Channel) -> NoteEvent
             note,
             velocity,
         } if *at == channel => {
+            // For the prover, which learns its range by this.
             let _note = note.get();
             NoteEvent::Released {
                 note: *note,

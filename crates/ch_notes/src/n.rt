@@ -47,7 +47,7 @@ fn y_bit(place: &Sent, tick: u64) -> u8
 }
 
 /// Appends the log of this event, if it has one, with these high bits.
-fn write_log(event: NoteEvent, s: u8, y: u8, out: &mut Octets)
+fn write_note_log(event: NoteEvent, s: u8, y: u8, out: &mut Octets)
     requires within { IsWithin event }
     requires s_fits { s ≤ 128 }
     requires y_fits { y ≤ 128 }
@@ -61,7 +61,7 @@ fn write_log(event: NoteEvent, s: u8, y: u8, out: &mut Octets)
 }
 
 /// Appends the logs of the notes that stand among these places.
-fn write_logs(places: &[Sent], channel: Channel, packet: u64, tick: u64, out: &mut Octets)
+fn write_note_logs(places: &[Sent], channel: Channel, packet: u64, tick: u64, out: &mut Octets)
     requires { length (logs_of channel packet tick places.now) ≤ out.old.spare }
     ensures { Appends out.old out.new (logs_of channel packet tick places.now) }
 {
@@ -69,7 +69,7 @@ fn write_logs(places: &[Sent], channel: Channel, packet: u64, tick: u64, out: &m
     let mut rest = places;
     while let Some((place, later)) = next_standing(&notes, rest) {
         let event = note_event(&place.command, channel);
-        write_log(event, place.s_bit(packet), y_bit(place, tick), out);
+        write_note_log(event, place.s_bit(packet), y_bit(place, tick), out);
         rest = later;
     }
 }
@@ -88,7 +88,7 @@ fn write_parts(
     ensures { Appends out.old out.new (note_octets (shape_head shape.now) ++ (logs_of channel packet tick places.now ++ mark_octets shape.now)) }
 {
     out.push_slice(&shape.head().pack());
-    write_logs(places, channel, packet, tick, out);
+    write_note_logs(places, channel, packet, tick, out);
     shape.write_bits(out);
 }
 

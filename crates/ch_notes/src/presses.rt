@@ -28,6 +28,7 @@ pub fn poly_event(command: &Command, channel: Channel) -> PolyEvent
             note,
             value,
         } if *at == channel => {
+            // For the prover, which learns its range by this.
             let _note = note.get();
             PolyEvent::Pressed {
                 note: *note,

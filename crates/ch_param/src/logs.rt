@@ -154,7 +154,7 @@ pub(crate) fn logs_len(history: &[Sent], channel: Channel, checkpoint: u64) -> u
 }
 
 /// Appends all logs.
-pub(crate) fn write_logs(
+pub(crate) fn write_parameter_logs(
     history: &[Sent],
     channel: Channel,
     checkpoint: u64,

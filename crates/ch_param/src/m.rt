@@ -7,7 +7,7 @@ ghost use Rattle.jm_cmds.specs.History.{InOrder, below};
 ghost use Rattle.jm_cmds.specs.Sent.{packet_of};
 ghost use Rattle.ch_param.specs.ChapterM.{chapter_m, fresh_m, param_count, has_param, selected, param_head};
 
-use crate::logs::{count, has, is_fresh, logs_len, write_logs};
+use crate::logs::{count, has, is_fresh, logs_len, write_parameter_logs};
 use crate::walk::selection_of;
 use jm_cmds::{Channel, D7, Param, Sent, session_history};
 use jm_wire::{Octets, ParamHead};
@@ -67,7 +67,7 @@ pub fn plain_write(
     let logs = logs_len(history, channel, checkpoint);
     if logs > 0 {
         write_head(is_fresh(history, channel, checkpoint, packet), logs, out);
-        write_logs(history, channel, checkpoint, packet, out);
+        write_parameter_logs(history, channel, checkpoint, packet, out);
     }
 }
 

@@ -17,7 +17,7 @@ fn is_reset_later(later: &[Sent]) -> bool
 }
 
 /// Whether this event's log is ended by one of the later places.
-fn is_ended(event: SysexEvent, later: &[Sent]) -> bool
+fn is_called_off(event: SysexEvent, later: &[Sent]) -> bool
     ensures { result ≡ (is_logged event && list_any resets later.now) }
 {
     is_logged(event) && is_reset_later(later)
@@ -33,7 +33,7 @@ pub(crate) fn coded_event(place: &Sent, later: &[Sent], checkpoint: u64) -> Syse
     if place.packet < checkpoint {
         return SysexEvent::Other;
     }
-    if is_ended(event, later) {
+    if is_called_off(event, later) {
         return SysexEvent::Other;
     }
     event

@@ -21,7 +21,7 @@ fn write_data(octets: &[u8], out: &mut Octets)
 }
 
 /// Appends the log of a message with this S and this COUNT.
-fn write_log(s: u8, count: u8, octets: &[u8], out: &mut Octets)
+fn write_message_log(s: u8, count: u8, octets: &[u8], out: &mut Octets)
     requires data { IsSysex octets.now }
     requires s_fits { s ≤ 128 }
     requires spare { 2 + length octets.now ≤ out.old.spare }
@@ -42,8 +42,8 @@ pub(crate) fn write_event(event: SysexEvent, s: u8, count: usize, octets: &[u8],
     ensures { Appends out.old out.new (event_text s count event octets.now) }
 {
     match event {
-        SysexEvent::Kept => write_log(s, ((count + 1) % 256) as u8, octets, out),
-        SysexEvent::ResetMessage => write_log(s, 0, octets, out),
+        SysexEvent::Kept => write_message_log(s, ((count + 1) % 256) as u8, octets, out),
+        SysexEvent::ResetMessage => write_message_log(s, 0, octets, out),
         SysexEvent::Reset | SysexEvent::Other => {}
     }
 }

@@ -57,7 +57,7 @@ fn is_any_fresh(places: &[Sent], checkpoint: u64, packet: u64) -> bool
 }
 
 /// Appends the logs of the coded places. Each COUNT is told from all places.
-fn write_logs(places: &[Sent], checkpoint: u64, packet: u64, out: &mut Octets)
+fn write_message_logs(places: &[Sent], checkpoint: u64, packet: u64, out: &mut Octets)
     requires { length (flat_map (sysex_log packet) (coded_counted checkpoint 0 places.now)) ≤ out.old.spare }
     ensures { Appends out.old out.new (flat_map (sysex_log packet) (coded_counted checkpoint 0 places.now)) }
 {
@@ -100,7 +100,7 @@ pub fn plain_write(list: &[Sent], checkpoint: u64, packet: u64, tick: u64, out: 
     ensures { Appends out.old out.new (chapter_x checkpoint packet list.now) }
 {
     let _ = tick;
-    write_logs(session_history(list, packet), checkpoint, packet, out);
+    write_message_logs(session_history(list, packet), checkpoint, packet, out);
 }
 
 /// Whether an S bit of the chapter is 0: one of its messages is of the packet before.

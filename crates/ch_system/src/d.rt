@@ -101,6 +101,7 @@ fn song_of(command: &Command) -> D7
 {
     match command {
         Command::SongSelect { song } => {
+            // For the prover, which learns its range by this.
             let _song = song.get();
             *song
         }

@@ -12,7 +12,7 @@ ghost use Rattle.ch_voice.specs.ChapterT.{chapter_t, fresh_t};
 ghost use Rattle.ch_voice.specs.PressureTable.{pressure_kept, pressure_noted, pressure_text};
 
 use crate::events::{PressureEvent, pressure_event};
-use crate::t::{log_len, write_log};
+use crate::t::{log_len, write_pressure_log};
 use jm_cmds::{Command, is_packet_before, s_of};
 use jm_wire::Octets;
 use std::marker::Model;
@@ -131,7 +131,7 @@ impl PressureTable {
         ensures { Appends out.old out.new (pressure_text packet self.now) }
     {
         if let Some((sent_in, event)) = self.kept {
-            write_log(s_of(is_packet_before(sent_in, packet)), &event, out);
+            write_pressure_log(s_of(is_packet_before(sent_in, packet)), &event, out);
         }
     }
 

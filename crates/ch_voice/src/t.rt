@@ -23,7 +23,7 @@ pub(crate) fn log_len(event: &PressureEvent) -> usize
 }
 
 /// Appends S PRESSURE, where the pressure is told. S is given as the high bit of an octet.
-pub(crate) fn write_log(s: u8, event: &PressureEvent, out: &mut Octets)
+pub(crate) fn write_pressure_log(s: u8, event: &PressureEvent, out: &mut Octets)
     requires s_fits { s ≤ 128 }
     requires spare { length (pressure_octets s event.now) ≤ out.old.spare }
     ensures { Appends out.old out.new (pressure_octets s event.now) }
@@ -66,7 +66,7 @@ pub fn plain_write(
 {
     let _ = tick;
     if let Some(place) = coded_place(list, VoiceItem::Pressure, channel, checkpoint, packet) {
-        write_log(
+        write_pressure_log(
             place.s_bit(packet),
             &pressure_event(&place.command, channel),
             out,

@@ -23,7 +23,7 @@ pub(crate) fn log_len(event: &WheelEvent) -> usize
 }
 
 /// Appends S FIRST and 0 SECOND, where the wheel is moved. S is given as the high bit of an octet.
-pub(crate) fn write_log(s: u8, event: &WheelEvent, out: &mut Octets)
+pub(crate) fn write_wheel_log(s: u8, event: &WheelEvent, out: &mut Octets)
     requires s_fits { s ≤ 128 }
     requires spare { length (wheel_octets s event.now) ≤ out.old.spare }
     ensures { Appends out.old out.new (wheel_octets s event.now) }
@@ -67,7 +67,7 @@ pub fn plain_write(
 {
     let _ = tick;
     if let Some(place) = coded_place(list, VoiceItem::Wheel, channel, checkpoint, packet) {
-        write_log(
+        write_wheel_log(
             place.s_bit(packet),
             &wheel_event(&place.command, channel),
             out,

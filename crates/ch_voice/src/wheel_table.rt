@@ -12,7 +12,7 @@ ghost use Rattle.ch_voice.specs.ChapterW.{chapter_w, fresh_w};
 ghost use Rattle.ch_voice.specs.WheelTable.{wheel_kept, wheel_noted, wheel_text};
 
 use crate::events::{WheelEvent, wheel_event};
-use crate::w::{log_len, write_log};
+use crate::w::{log_len, write_wheel_log};
 use jm_cmds::{Command, is_packet_before, s_of};
 use jm_wire::Octets;
 use std::marker::Model;
@@ -131,7 +131,7 @@ impl WheelTable {
         ensures { Appends out.old out.new (wheel_text packet self.now) }
     {
         if let Some((sent_in, event)) = self.kept {
-            write_log(s_of(is_packet_before(sent_in, packet)), &event, out);
+            write_wheel_log(s_of(is_packet_before(sent_in, packet)), &event, out);
         }
     }
 

@@ -44,7 +44,7 @@ plays (Play player tick ∷ marks) = plays marks + 1
 
 -- what is seen of marks, the commands of the plays, and the room of each list: the last is for the
 -- steps, woven together again
-abbrev pub taped : List Mark → List Sent → ℕ → ℕ → ℕ → Taped
+abbrev pub taped : List Mark → List Sent → (mark_room command_room step_room : ℕ) → Taped
 taped marks commands mark_room command_room step_room = record {
   steps = woven marks commands;
   commands = commands;

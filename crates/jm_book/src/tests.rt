@@ -1,4 +1,4 @@
-//! Worked sessions, told by the reference program.
+//! Worked sessions, told by an independent plain program.
 use super::*;
 use apple_msg::{Message, Name};
 use apple_session::{PortKind, Why};

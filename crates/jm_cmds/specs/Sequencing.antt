@@ -1,4 +1,6 @@
--- The song position (RFC 6295, B.3).
+-- The song position, which RFC 6295, B.3 codes as Chapter Q. What Stop, Continue and Song Position do to the downbeat is
+-- this project's own: Stop and Continue take it away and Song Position leaves it, where the standard has them the other
+-- way round.
 use Rattle.std.specs.Prelude.{ℕ, ◌+◌, ◌*◌, ◌%◌, ◌<◌, Bool, true, false, List, Option, Some, None, fold, if◌then◌else◌}
 use Rattle.jm_cmds.specs.declared.commands.Command.{Command}
 use Rattle.jm_cmds.specs.declared.commands.Command.TheVariants.{SongPosition, Clock, Start, Continue, Stop}

@@ -109,7 +109,7 @@ enum DataOctets<'a> {
 
 impl<'a> DataOctets<'a> {
     /// The whole command with this status octet, which a System Exclusive message has no choice of.
-    fn behind(self, status: u8) -> Spelled<'a>
+    fn with_status(self, status: u8) -> Spelled<'a>
         ensures { octets_of result ≡ octets_behind status self.entry }
     {
         match self {
@@ -185,7 +185,7 @@ impl Command {
         ensures octets { octets_of result ≡ spelling self.now }
         ensures command { IsCommand self.now }
     {
-        self.data().behind(self.status())
+        self.data().with_status(self.status())
     }
 
     /// The number of the command's octets, from 1 to 2,048.

@@ -38,6 +38,7 @@ pub fn frame_event(command: &Command) -> FrameEvent
 {
     match command {
         Command::QuarterFrame { value } => {
+            // For the prover, which learns its range by this.
             let _value = value.get();
             FrameEvent::Framed { value: *value }
         }

@@ -1,4 +1,5 @@
-//! The song position, as the commands of a session move it (RFC 6295, B.3).
+//! The song position, which RFC 6295, B.3 codes as Chapter Q. What Stop, Continue and Song Position do to the
+//! downbeat is this project's own rule.
 
 ghost use Rattle.std.specs.Prelude.{◌≡◌, ◌<◌, None};
 ghost use Rattle.jm_cmds.specs.Sequencing.{sequencer_event, IsSequencerEvent, IsSequencer, sequencer_from, clocked, turned, sequencer_step, sequencer_after};
@@ -7,7 +8,7 @@ use crate::commands::Command;
 use crate::history::{Sent, first_place};
 use crate::numbers::D14;
 
-/// What a command means for the sequencer (RFC 6295, B.3).
+/// What a command means for the sequencer.
 #[derive(Clone, Copy, PartialEq, Eq, Debug)]
 pub enum SequencerEvent {
     /// A clock, of which 24 are a quarter note.
@@ -48,6 +49,7 @@ pub fn sequencer_event(command: &Command) -> SequencerEvent
         Command::Continue => SequencerEvent::Continued,
         Command::Stop => SequencerEvent::Stopped,
         Command::SongPosition { value } => {
+            // For the prover, which learns its range by this.
             let _value = value.get();
             SequencerEvent::Located { value: *value }
         }

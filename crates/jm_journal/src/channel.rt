@@ -38,6 +38,7 @@ impl Lens {
         ensures octets { AreLens span.checkpoint span.packet span.tick list.now channel result }
         ensures short { AreShort result }
     {
+        // For the prover, which learns its range by this.
         let _ = channel.get();
         let Span {
             checkpoint,
@@ -73,6 +74,7 @@ pub(crate) fn is_fresh(list: &[Sent], channel: Channel, span: Span) -> bool
     requires limits { KeepsLimits span.checkpoint (below packet_of span.packet list.now) }
     ensures { result ≡ channel_fresh span.checkpoint span.packet list.now channel }
 {
+    // For the prover, which learns its range by this.
     let _ = channel.get();
     let Span {
         checkpoint,
@@ -123,6 +125,7 @@ fn write_chapters(list: &[Sent], channel: Channel, span: Span, out: &mut Octets)
     requires spare { length (channel_chapters span.checkpoint span.packet span.tick list.now channel) ≤ out.old.spare }
     ensures { Appends out.old out.new (channel_chapters span.checkpoint span.packet span.tick list.now channel) }
 {
+    // For the prover, which learns its range by this.
     let _ = channel.get();
     let Span {
         checkpoint,

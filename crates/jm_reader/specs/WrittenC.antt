@@ -1,4 +1,5 @@
 -- Chapter C: what is written is read.
+use Rattle.std.proofs.lemmas.Bool.{not-true}
 use Rattle.std.proofs.Common.{◌≡◌, ℕ, ◌+◌, ◌<◌, ◌≤◌, ◌%◌, ◌&&◌, not, Bool, true, false, cond, eqb, ltb, List, ◌++◌, length, [], Option, Some, None, fold, refl, ◌∙◌, arith, inl, inr}
 use Rattle.std.specs.Prelude.{◌==◌, ◌∷◌, if◌then◌else◌}
 use Rattle.std.specs.List.{AllByRecursion}
@@ -67,14 +68,10 @@ dropped : (b : Bool) → Fits (cond b Dropped Other)
 dropped true = tt
 dropped false = tt
 
-not_true : (b : Bool) → not b ≡ true → b ≡ false
-not_true true e = absurd (let f : false ≡ true = e in cc)
-not_true false e = refl
-
 fits_event : (channel : ℕ) (command : Command) → IsCommand command → Fits (control_event channel command)
 fits_event channel (commands.Control at number value) h =
     elim (cases_Bool (eqb at channel && not (is_entry number))) [
-      | inl t ↦ rw t (h.1, not_true (is_entry number) (and_parts (eqb at channel) (not (is_entry number)) t).1, h.2)
+      | inl t ↦ rw t (h.1, not-true (is_entry number) (and_parts (eqb at channel) (not (is_entry number)) t).1, h.2)
       | inr f ↦ rw f tt
     ]
 fits_event channel command h = dropped (is_reset command)
@@ -85,7 +82,7 @@ few_toggles pedal (Moved on) l = elim (cases_Bool (beq on pedal.on)) [ inl t ↦
 few_toggles pedal Released l = omega arith
 few_toggles pedal Still l = l
 
-few_along : (channel : ℕ) (pedal : Pedal) (session : List Sent) → IsPedal pedal → IsPedal (fold (pedal_along channel) pedal session)
+pub few_along : (channel : ℕ) (pedal : Pedal) (session : List Sent) → IsPedal pedal → IsPedal (fold (pedal_along channel) pedal session)
 few_along channel pedal [] l = l
 few_along channel pedal (x ∷ xs) l = few_along channel (pedal_along channel pedal x) xs (few_toggles pedal (pedal_event channel x.command) l)
 

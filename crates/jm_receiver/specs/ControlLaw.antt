@@ -1,4 +1,5 @@
 -- The law of repair for the values of a channel's controls.
+use Rattle.std.proofs.lemmas.Bool.{not-true}
 use Rattle.std.proofs.Common.{◌≡◌, ℕ, ◌<◌, Bool, true, false, cond, not, ◌&&◌, ◌||◌, eqb, List, Option, Some, None, refl, sym, ap, ◌∙◌, subst, inl, inr, arith}
 use Rattle.std.proofs.lemmas.Bool.{cases_Bool, eq-eqb, eqb-true, or_cases, and_parts}
 use Rattle.std.proofs.lemmas.Bool.Decides.{nat_tests}
@@ -253,10 +254,6 @@ unfolding control_kind
 dropped_by number control value h d =
     subst (λ n. speaks (controller_says (control_kind n) (control_kind control) n control value) ≡ true) (sym (eqb-true number 121 h)) (is_spoken (is_dropped (control_kind control)) d)
 
-not_true : (b : Bool) → not b ≡ true → b ≡ false
-not_true true h = cc
-not_true false h = refl
-
 over_spoken : (a : Option (Option ℕ)) (b : Bool) → speaks a ≡ true → speaks (over a (ended b)) ≡ true
 over_spoken (Some a) b h = refl
 over_spoken None b h = absurd (let f : false ≡ true = h in cc)
@@ -268,7 +265,7 @@ ends_item number control value other later h e =
       | inl a ↦ same_item control value later number other a h
       | inr b ↦
           let parts = and_parts (eqb other 121) (not (is_kept number)) b in
-          dropped_by other control later parts.0 (set_back (control_kind number) number control value refl (not_true (is_kept number) parts.1) h)
+          dropped_by other control later parts.0 (set_back (control_kind number) number control value refl (not-true (is_kept number) parts.1) h)
     ]
 
 covered : (channel control number value : ℕ) (command : Command) → speaks (controller_says (control_kind number) (control_kind control) number control value) ≡ true → touches number (control_event channel command) ≡ true →

@@ -10,6 +10,7 @@ use Rattle.jm_cmds.specs.declared.param.Param.{Param}
 use Rattle.jm_cmds.specs.HistoryLaws.{AllByRecursion-append, AllByRecursion-filter}
 use Rattle.jm_cmds.specs.Param.{same_param}
 use Rattle.jm_cmds.specs.ParamLaws.{same_param-equal}
+use Rattle.jm_state.specs.ParamLaws.{same_self}
 use Rattle.jm_state.specs.declared.entered.Entry.{Entry}
 use Rattle.jm_state.specs.declared.entered.Halves.{Halves}
 use Rattle.jm_state.specs.Entered.{half_set, halves_in, is_other, entered_with}
@@ -30,13 +31,6 @@ pub record Holds (known : List Param) (es : List Entry) : Type 0 where
   pub distinct : IsDistinct same_param (keys_of es)
 
 -- ## Parameters are told apart
-
-beq_self : (b : Bool) → beq b b ≡ true
-beq_self true = refl
-beq_self false = refl
-
-pub same_self : (p : Param) → same_param p p ≡ true
-same_self p = rw (beq_self p.nrpn, eq-eqb p.high p.high refl, eq-eqb p.low p.low refl) refl
 
 same_back : (p q : Param) → same_param p q ≡ true → same_param q p ≡ true
 same_back p q t = let e = same_param-equal p q t in rw e (same_self q)

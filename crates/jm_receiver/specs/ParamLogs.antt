@@ -1,4 +1,5 @@
 -- What the logs of a written journal enter in a channel.
+use Rattle.std.proofs.lemmas.Bool.{not-true}
 use Rattle.std.proofs.Common.{◌≡◌, ℕ, ◌%◌, ◌<◌, ◌≤◌, Bool, true, false, not, cond, ◌&&◌, eqb, List, [], ◌∷◌, Option, Some, None, fold, length, refl, sym, ap, ◌∙◌, inl, inr, arith}
 use Rattle.std.proofs.Math.Bool.{beq}
 use Rattle.std.specs.List.{flat_map, list_any, AllByRecursion}
@@ -291,13 +292,9 @@ module _ (channel : ℕ) (known : List Param) where
   sets_none : (at : ℕ) (command : Command) → SetsNone (control_event at command)
   sets_none at (commands.Control own number value) =
       elim (cases_Bool (eqb own at && not (is_entry number))) [
-        | inl t ↦ rw t (not_true (is_entry number) (and_parts (eqb own at) (not (is_entry number)) t).1)
+        | inl t ↦ rw t (not-true (is_entry number) (and_parts (eqb own at) (not (is_entry number)) t).1)
         | inr f ↦ rw f tt
       ]
-    where
-      not_true : (b : Bool) → not b ≡ true → b ≡ false
-      not_true true e = absurd (let f : false ≡ true = e in cc)
-      not_true false e = refl
   sets_none at command = dropped (is_reset command)
     where
       dropped : (b : Bool) → SetsNone (cond b events.Dropped events.Other)

@@ -1,5 +1,6 @@
 -- The law of repair for the selection of a parameter in a channel: four halves, and of which kind the last one was. Of each of the five
 -- the last command that speaks of it decides.
+use Rattle.std.proofs.lemmas.Bool.{not-true}
 use Rattle.std.proofs.Common.{◌≡◌, ℕ, ◌<◌, Bool, true, false, cond, not, ◌&&◌, ◌||◌, eqb, List, Option, Some, None, refl, sym, ap, ◌∙◌, subst, inl, inr, arith}
 use Rattle.std.proofs.Math.Bool.{beq}
 use Rattle.std.proofs.lemmas.Bool.{cases_Bool, eq-eqb, eqb-true, or_cases, and_parts}
@@ -177,10 +178,6 @@ is_selecting kind = false
 
 self : (n : ℕ) → eqb n n ≡ true
 self n = eq-eqb n n refl
-
-not_true : (b : Bool) → not b ≡ true → b ≡ false
-not_true true h = cc
-not_true false h = refl
 
 -- what Chapter C has of them as its own
 selects : (number : ℕ) → is_selecting (control_kind number) ≡ true → (((eqb number 98 || eqb number 99) || (eqb number 100 || eqb number 101)) || eqb number 121) ≡ true

@@ -40,6 +40,7 @@ use Rattle.jm_reader.specs.declared.logs.LogKind.TheVariants as kinds
 use Rattle.jm_reader.specs.WrittenC.{c_said, value_said, event_said, place_said}
 use Rattle.jm_reader.specs.WrittenListed.{all_logged}
 use Rattle.jm_reader.specs.WrittenJournal.{journal_logs}
+use Rattle.jm_reader.specs.WrittenC.{few_along}
 use Rattle.jm_receiver.specs.declared.group.Group.TheVariants.{Controls}
 use Rattle.jm_receiver.specs.Group.{is_of, command_of, all_channels}
 use Rattle.jm_receiver.specs.Repair.{has_reset, cleared, counts, with_message, messages_repaired, with_session_log, high_entered, low_entered, with_channel_log, repaired}
@@ -183,15 +184,6 @@ passes kind value p c = refl
 
 self : (n : ℕ) → eqb n n ≡ true
 self n = eq-eqb n n refl
-
-few_step : (pedal : Pedal) (event : PedalEvent) → IsPedal pedal → IsPedal (pedal_step pedal event)
-few_step pedal (Moved on) l = elim (cases_Bool (beq on pedal.on)) [ inl t ↦ rw t l | inr f ↦ rw f (omega arith) ]
-few_step pedal Released l = omega arith
-few_step pedal Still l = l
-
-few_along : (channel : ℕ) (pedal : Pedal) (session : List Sent) → IsPedal pedal → IsPedal (fold (pedal_along channel) pedal session)
-few_along channel pedal [] l = l
-few_along channel pedal (x ∷ xs) l = few_along channel (pedal_along channel pedal x) xs (few_step pedal (pedal_event channel x.command) l)
 
 few : (channel : ℕ) (session : List Sent) → (pedal_after channel session).toggles % 64 ≡ (pedal_after channel session).toggles
 unfolding pedal_after

@@ -1,4 +1,5 @@
 -- Entering a half of a parameter, as a read of parameters sees it.
+use Rattle.std.proofs.lemmas.Bool.{not-true}
 use Rattle.std.proofs.Common.{◌≡◌, ℕ, ◌-◌, ◌<◌, ◌≤◌, Bool, true, false, not, List, [], ◌∷◌, ◌++◌, Option, Some, None, take, drop, length, filter, refl, ap, sym, ◌∙◌, inl, inr, arith, eq-eqb, length-append}
 use Rattle.std.proofs.Math.Bool.{beq}
 use Rattle.std.specs.List.{list_all, filter_map, cons_option}
@@ -16,12 +17,8 @@ beq_self : (b : Bool) → beq b b ≡ true
 beq_self true = refl
 beq_self false = refl
 
-same_self : (p : Param) → same_param p p ≡ true
+pub same_self : (p : Param) → same_param p p ≡ true
 same_self p = rw (beq_self p.nrpn, eq-eqb p.high p.high refl, eq-eqb p.low p.low refl) refl
-
-not_other : (b : Bool) → not b ≡ true → b ≡ false
-not_other true e = cc
-not_other false e = refl
 
 others_all : (p : Param) (es : List Entry) → list_all (is_other p) (filter (is_other p) es) ≡ true
 others_all p [] = refl
@@ -40,7 +37,7 @@ found_last : (p : Param) (xs : List Entry) (e : Entry) → list_all (is_other p)
 found_last p [] e h s = rw s refl
 found_last p (x ∷ xs) e h s =
     let both = and_parts (not (same_param x.param p)) (list_all (is_other p) xs) h in
-    rw (not_other (same_param x.param p) both.0) (found_last p xs e both.1 s)
+    rw (not-true (same_param x.param p) both.0) (found_last p xs e both.1 s)
 
 -- the half that is entered is there, with the other half that was
 pub entered_own : (high : Bool) (p : Param) (value : ℕ) (es : List Entry) → halves_in (entered_with high p (Some value) es) p ≡ half_set high (Some value) (halves_in es p)

@@ -23,14 +23,14 @@ pub record Touched : Type 0 where
   pub time_code : Bool
   pub sysex_count : Bool
   pub program : ℕ → Bool
-  pub control : ℕ → ℕ → Bool
+  pub control : (channel number : ℕ) → Bool
   pub toggles : ℕ → Bool
   pub selection : ℕ → Bool
   pub params : ℕ → Bool
   pub wheel : ℕ → Bool
-  pub note : ℕ → ℕ → Bool
+  pub note : (channel note : ℕ) → Bool
   pub pressure : ℕ → Bool
-  pub poly : ℕ → ℕ → Bool
+  pub poly : (channel note : ℕ) → Bool
 
 abbrev pub none_of : ℕ → Bool
 none_of channel = false

@@ -31,7 +31,7 @@ counts Note = 0
 counts Spent = 0
 
 -- 1 for the one number, 0 for the others
-abbrev pub one_at : ℕ → ℕ → ℕ
+abbrev pub one_at : (n k : ℕ) → ℕ
 one_at n k = if k == n then 1 else 0
 
 -- 1 for the pass of this number
@@ -48,7 +48,7 @@ counted v = counts v.kind
 abbrev pub ended_as : ℕ → ℕ × List ℕ → ℕ
 ended_as n e = one_at n e.0
 
-abbrev pub once_below : ℕ → ℕ → ℕ
+abbrev pub once_below : (n next : ℕ) → ℕ
 once_below n next = if nat_lt n next then 1 else 0
 
 -- What one view says is so. The history is `log`, the value shared at first is `first`, and so many tickets are out.

@@ -7,7 +7,7 @@ module _ {C : Type 0} where
   made by what = record { by = by; what = what }
 
   -- the places of the turns of pass n, where the first turn of the list has this place
-  abbrev pub places : ℕ → ℕ → List (Made C) → List ℕ
+  abbrev pub places : (n place : ℕ) → List (Made C) → List ℕ
   places n place [] = []
   places n place (m ∷ ms) = if m.by == n then place ∷ places n (place + 1) ms else places n (place + 1) ms
 

@@ -51,7 +51,7 @@ Closed (Ok Stop) told reader reader' = after reader.answers (told (lines_of read
 Closed (Err e) told reader reader' = ⊤
 
 -- where the reading goes on, it has come nearer to its limits by so many octets, and is within them
-abbrev pub Nears : {E : Type 0} → Result Flow E → ℕ → LineReader → LineReader → ℕ → Type 0
+abbrev pub Nears : {E : Type 0} → Result Flow E → (longest : ℕ) → (reader reader' : LineReader) → (count : ℕ) → Type 0
 Nears (Ok On) longest reader reader' count = IsKept longest reader' × (octets_to_come reader' + count ≤ octets_to_come reader)
 Nears (Ok Stop) longest reader reader' count = ⊤
 Nears (Err e) longest reader reader' count = ⊤

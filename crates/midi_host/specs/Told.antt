@@ -47,7 +47,7 @@ lined_by answered (Ok line) = answered line
 lined_by answered (Err fault) = refused (cause_of fault)
 
 -- the limits come first: of lines, and then of the octets of a line
-abbrev pub within_limits : {State : Type 0} → ℕ → ℕ → List ℕ → Lined State → Lined State
+abbrev pub within_limits : {State : Type 0} → (longest before : ℕ) → (line : List ℕ) → Lined State → Lined State
 within_limits longest before line lined = if nat_le MOST_LINES before then refused Lines else (if nat_lt longest (length line) then refused TooLong else lined)
 
 -- a line's part of the text, and then what the lines after it are told
@@ -56,6 +56,6 @@ after_line before (taken text state) later = after text (later state)
 after_line before (refused cause) later = told_bad (before + 1) cause
 
 -- What lines are told by a verb that makes `lined state line` of a line, where `before` lines came before.
-unfoldable pub told_by : {State : Type 0} → ℕ → (State → List ℕ → Lined State) → ℕ → State → List (List ℕ) → Told
+unfoldable pub told_by : {State : Type 0} → (longest : ℕ) → (State → List ℕ → Lined State) → (before : ℕ) → State → List (List ℕ) → Told
 told_by longest lined before state [] = told_none
 told_by longest lined before state (line ∷ lines) = after_line before (within_limits longest before line (lined state line)) (λ next. told_by longest lined (before + 1) next lines)

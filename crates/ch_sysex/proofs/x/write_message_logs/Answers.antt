@@ -4,7 +4,7 @@ use Rattle.jm_wire.specs.Octets.{Owes, owes_less}
 use Rattle.ch_sysex.specs.SysexEvent.{count_step}
 use Rattle.ch_sysex.specs.ChapterX.{sysex_log, coded_counted, event_text}
 use Rattle.ch_sysex.specs.ChapterLaws.{text_more, length-event_text, count-small}
-use Rattle.ch_sysex.proofs.x.write_logs.Goals as goal
+use Rattle.ch_sysex.proofs.x.write_message_logs.Goals as goal
 
 pub write_event-requires-clause-spare : goal.write_event-requires-clause-spare
 write_event-requires-clause-spare c =

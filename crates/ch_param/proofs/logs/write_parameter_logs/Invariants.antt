@@ -3,7 +3,7 @@ use Rattle.std.specs.List.{flat_map}
 use Rattle.jm_wire.specs.Octets.{Owes}
 use Rattle.ch_param.specs.Event.{placed}
 use Rattle.ch_param.specs.ChapterM.{entered, entered_log, param_logs, session_places}
-use Rattle.ch_param.proofs.logs.write_logs.Given as goal
+use Rattle.ch_param.proofs.logs.write_parameter_logs.Given as goal
 
 abbrev pub invariant-loop-param : goal.invariant-loop-param
 invariant-loop-param l =

@@ -4,7 +4,7 @@ use Rattle.jm_wire.specs.Octets.{Owes}
 use Rattle.jm_cmds.specs.History.{standing}
 use Rattle.ch_notes.specs.NoteEvent.{note_ends}
 use Rattle.ch_notes.specs.ChapterN.{note_log}
-use Rattle.ch_notes.proofs.n.write_logs.Given as goal
+use Rattle.ch_notes.proofs.n.write_note_logs.Given as goal
 
 abbrev pub invariant-loop-place : goal.invariant-loop-place
 invariant-loop-place l =

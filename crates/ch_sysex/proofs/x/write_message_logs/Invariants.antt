@@ -2,7 +2,7 @@ use Rattle.std.proofs.Common.{◌+◌, ◌≤◌, length}
 use Rattle.std.specs.List.{flat_map}
 use Rattle.jm_wire.specs.Octets.{Owes}
 use Rattle.ch_sysex.specs.ChapterX.{sysex_log, coded_counted}
-use Rattle.ch_sysex.proofs.x.write_logs.Given as goal
+use Rattle.ch_sysex.proofs.x.write_message_logs.Given as goal
 
 abbrev pub invariant-loop-place : goal.invariant-loop-place
 invariant-loop-place l =
