@@ -36,3 +36,4 @@ pub mod Congruence
 pub mod Agreement
 pub mod KeptAgreement
 pub mod FreshAgreement
+pub mod InStep

@@ -8,6 +8,7 @@ ghost use Rattle.jm_receiver.specs.Laws.{MessagesAreRepaired, ParametersAreRepai
 ghost use Rattle.jm_receiver.specs.Agreement.{StatesAreRepaired};
 ghost use Rattle.jm_receiver.specs.KeptAgreement.{InStepAgain};
 ghost use Rattle.jm_receiver.specs.FreshAgreement.{FreshLogsRepairStates, InStepByFresh};
+ghost use Rattle.jm_receiver.specs.InStep.{ReceiversComeInStep};
 
 /// The program of each channel is repaired, with the bank that it was chosen with.
 #[tactic(auto, using(crate::specs::ProgramLaw::program_repaired))]
@@ -126,4 +127,12 @@ pub fn fresh_logs_repair_states()
 /// the packet's commands it agrees with all packets up to it.
 pub fn fresh_logs_bring_in_step()
     ensures { InStepByFresh }
+{}
+
+/// A whole receiver whose state agrees with all packets before the first one that it lacks takes a later packet of the stream under its
+/// own number, and its state agrees with all packets up to that one: whether none was lost between them, and the journal isn't used;
+/// just one, and the fresh logs alone are; or more, and all are. The packet is 1 to 32,767 ahead of the last one that was taken; the
+/// first one is below 65,536; and the journal's checkpoint isn't later than the first packet that the receiver lacks.
+pub fn receivers_come_in_step()
+    ensures { ReceiversComeInStep }
 {}
