@@ -1,5 +1,5 @@
 -- The law of repair for whole states.
-use Rattle.std.proofs.Common.{◌≡◌, ℕ, ◌<◌, ◌≤◌, Bool, true, false, ◌||◌, List, [], ◌∷◌, length, refl, sym, ap, ◌∙◌, inl, inr, arith}
+use Rattle.std.proofs.Common.{◌≡◌, ℕ, ◌<◌, ◌≤◌, Bool, true, false, ◌||◌, List, [], ◌∷◌, Option, None, length, refl, sym, ap, ◌∙◌, inl, inr, arith}
 use Rattle.std.specs.Prelude.{nat_lt}
 use Rattle.std.specs.List.{list_any, AllByRecursion}
 use Rattle.std.proofs.lemmas.Bool.{cases_Bool, ltb-false, le-ltb}
@@ -9,6 +9,7 @@ use Rattle.jm_cmds.specs.History.{below, InOrder}
 use Rattle.jm_cmds.specs.Param.{same_param}
 use Rattle.jm_cmds.specs.ParamLaws.{same_param-equal}
 use Rattle.jm_cmds.specs.Sent.{packet_of}
+use Rattle.ch_param.specs.ChapterM.{session_places}
 use Rattle.ch_sysex.specs.ChapterX.{sysex_logs}
 use Rattle.jm_state.specs.declared.entered.Entry.{Entry}
 use Rattle.jm_state.specs.declared.entered.Halves.{Halves}
@@ -18,6 +19,9 @@ use Rattle.jm_state.specs.KeptLaws.{no_state_is}
 use Rattle.jm_state.specs.Parts.{no_state, toggles_of, selection_of, entered_of, param_of}
 use Rattle.jm_state.specs.ReplayLaws.{state_behind, behind_is}
 use Rattle.jm_state.specs.SettingLaws.{Touched, nothing, SameBut}
+use Rattle.jm_state.specs.Says.{said}
+use Rattle.jm_state.specs.Final.{final}
+use Rattle.jm_reader.specs.declared.logs.Log.{Log}
 use Rattle.jm_reader.specs.Written.{AreCommands}
 use Rattle.jm_reader.specs.WrittenJournal.{journal_logs}
 use Rattle.jm_receiver.specs.Repair.{repaired}
@@ -33,10 +37,11 @@ use Rattle.jm_receiver.specs.SelectionLaw.{selection_repaired}
 use Rattle.jm_receiver.specs.SongLaw.{song_repaired}
 use Rattle.jm_receiver.specs.ToggleLaw.{toggles_repaired}
 use Rattle.jm_receiver.specs.WheelLaw.{wheel_repaired}
-use Rattle.jm_receiver.specs.ParamKeys.{is_known, Holds, half_of, same_self as param_self}
+use Rattle.jm_state.specs.ParamLaws.{same_self as param_self}
+use Rattle.jm_receiver.specs.ParamKeys.{is_known, Holds, half_of}
 use Rattle.jm_receiver.specs.ParamLaw.{recent, read_half, half_from, same_halves, params_before, half_before, holds_before}
 use Rattle.jm_receiver.specs.ParamLogs.{param}
-use Rattle.jm_receiver.specs.ParamPlaces.{params_entered, clears}
+use Rattle.jm_receiver.specs.ParamPlaces.{params_entered, clears, place_says}
 use Rattle.jm_receiver.specs.Whole.{has_half, IsEntered, IsWhole}
 
 -- More than 16 different parameters of the channel were entered since the last Reset State command.
@@ -79,10 +84,6 @@ alike_parts own s t h = record {
     poly = λ note n. h.poly channel note l n refl;
   };
 }
-
--- the groups whose laws stand by themselves, of the state that the packets before `next` leave
-pub record Groups (checkpoint next packet tick : ℕ) (sent : List Sent) : Type 0 where
-  pub all_but : SameButParams (repaired (state_behind no_state (below packet_of next sent)) (journal_logs checkpoint packet tick sent)) (state_behind no_state (below packet_of packet sent))
 
 -- ## Parameters
 
@@ -146,11 +147,17 @@ module _ (channel : ℕ) (l : channel < 16) (checkpoint next packet tick : ℕ) 
       ∙ agrees.param channel p.nrpn p.high p.low l open_too
       ∙ ap (halves_in (entered_of (state_behind no_state before) channel)) (param_again p)
 
+  pub holds_agrees : list_any (clears channel) (recent channel checkpoint (below packet_of packet sent)) ≡ false → Holds (params_entered channel (below packet_of packet sent)) (entered_of s channel)
+  holds_agrees f =
+      holds_too (params_entered channel (below packet_of packet sent)) (entered_of s channel) (entered_of (state_behind no_state (below packet_of next sent)) channel) (is.entered channel l)
+      (holds_before channel l checkpoint next packet sent o early late few f) (entered_agrees f)
+
+  pub said_agrees : (p : Param) (half : Bool) → list_any (clears channel) (recent channel checkpoint (below packet_of packet sent)) ≡ false →
+      read_half channel p half s ≡ said (final (place_says channel p half) (session_places channel (below packet_of next sent))) None
+  said_agrees p half f = ap (half_of half) (entered_agrees f p) ∙ half_before channel l p half checkpoint next packet sent o early late few f
+
   half_agrees : (p : Param) (half : Bool) → read_half channel p half (repaired s (journal_logs checkpoint packet tick sent)) ≡ read_half channel p half (state_behind no_state (below packet_of packet sent))
-  half_agrees p half =
-      half_from channel l p half checkpoint next packet tick sent s o early late is.state few
-      (λ f. holds_too (params_entered channel (below packet_of packet sent)) (entered_of s channel) (entered_of (state_behind no_state (below packet_of next sent)) channel) (is.entered channel l) (holds_before channel l checkpoint next packet sent o early late few f) (entered_agrees f))
-      (λ f. ap (half_of half) (entered_agrees f p) ∙ half_before channel l p half checkpoint next packet sent o early late few f)
+  half_agrees p half = half_from channel l p half checkpoint next packet tick sent s o early late is.state few holds_agrees (said_agrees p half)
 
   param_agrees : (nrpn : Bool) (high low : ℕ) → param_of (repaired s (journal_logs checkpoint packet tick sent)) channel nrpn high low ≡ param_of (state_behind no_state (below packet_of packet sent)) channel nrpn high low
   param_agrees nrpn high low =
@@ -160,14 +167,18 @@ module _ (channel : ℕ) (l : channel < 16) (checkpoint next packet tick : ℕ) 
 
 -- ## The law
 
--- Where all groups but the parameters are repaired, so are states.
-pub states_from : (checkpoint next packet tick : ℕ) (sent : List Sent) (s : State) → InOrder packet_of sent → checkpoint ≤ next → next ≤ packet → Groups checkpoint next packet tick sent →
-    IsWhole s → Agrees s (below packet_of next sent) → Agrees (repaired s (journal_logs checkpoint packet tick sent)) (below packet_of packet sent)
-states_from checkpoint next packet tick sent s o early late groups is agrees =
-    let old = state_behind no_state (below packet_of next sent) in
-    let logs = journal_logs checkpoint packet tick sent in
-    let a = repaired_same s old logs is.state (behind_is no_state (below packet_of next sent) no_state_is) (alike_parts (λ channel. is_crowded channel (below packet_of next sent)) old s agrees) in
-    let b = groups.all_but in
+-- the parameters of channels that aren't crowded are what these commands leave
+abbrev pub ParamsAgree : State → List Sent → Type 0
+ParamsAgree s sent =
+    (channel : ℕ) (nrpn : Bool) (high low : ℕ) → channel < 16 → is_crowded channel sent ≡ false → param_of s channel nrpn high low ≡ param_of (state_behind no_state sent) channel nrpn high low
+
+-- Where these logs repair all parts but parameters of the state that some commands leave, and the parameters of one that agrees with it,
+-- they repair that one.
+pub states_from : (s : State) (logs : List Log) (before after : List Sent) → SameButParams (repaired (state_behind no_state before) logs) (state_behind no_state after) → ParamsAgree (repaired s logs) after →
+    IsWhole s → Agrees s before → Agrees (repaired s logs) after
+states_from s logs before after b params is agrees =
+    let old = state_behind no_state before in
+    let a = repaired_same s old logs is.state (behind_is no_state before no_state_is) (alike_parts (λ channel. is_crowded channel before) old s agrees) in
     record {
       song = λ n. a.song ∙ b.song;
       sequencer = λ n. a.sequencer ∙ b.sequencer;
@@ -177,7 +188,7 @@ states_from checkpoint next packet tick sent s o early late groups is agrees =
       control = λ channel number l k n. (a.channels channel l).control number k ∙ (b.channels channel l).control number k;
       toggles = λ channel l n. (a.channels channel l).toggles ∙ (b.channels channel l).toggles;
       selection = λ channel l n. (a.channels channel l).selection ∙ (b.channels channel l).selection;
-      param = λ channel nrpn high low l n. param_agrees channel l checkpoint next packet tick sent s o early late is agrees (few_of channel (below packet_of packet sent) n) nrpn high low;
+      param = λ channel nrpn high low l n. params channel nrpn high low l n;
       wheel = λ channel l n. (a.channels channel l).wheel ∙ (b.channels channel l).wheel;
       note = λ channel note l k n. (a.channels channel l).note note k ∙ (b.channels channel l).note note k;
       pressure = λ channel l n. (a.channels channel l).pressure ∙ (b.channels channel l).pressure;
@@ -186,23 +197,22 @@ states_from checkpoint next packet tick sent s o early late groups is agrees =
 
 pub states_repaired : StatesAreRepaired
 states_repaired checkpoint next packet tick sent s h o messages early late is agrees =
-    states_from checkpoint next packet tick sent s o early late
+    states_from s (journal_logs checkpoint packet tick sent) (below packet_of next sent) (below packet_of packet sent)
     (record {
-      all_but = record {
-        song = song_repaired checkpoint next packet tick sent o early late;
-        sequencer = sequencer_repaired checkpoint next packet tick sent h o early late;
-        time_code = time_code_repaired checkpoint next packet tick sent h o early late;
-        sysex_count = number_of_messages_repaired checkpoint next packet tick sent o messages early late;
-        channels = λ channel l. record {
-          program = program_repaired channel l checkpoint next packet tick sent o early late;
-          control = λ number n. control_repaired channel number l n checkpoint next packet tick sent o early late;
-          toggles = toggles_repaired channel l checkpoint next packet tick sent o early late;
-          selection = selection_repaired channel l checkpoint next packet tick sent o early late;
-          wheel = wheel_repaired channel l checkpoint next packet tick sent o early late;
-          note = λ note n. note_repaired channel note l n checkpoint next packet tick sent o early late;
-          pressure = pressure_repaired channel l checkpoint next packet tick sent o early late;
-          poly = λ note n. poly_repaired channel note l n checkpoint next packet tick sent o early late;
-        };
+      song = song_repaired checkpoint next packet tick sent o early late;
+      sequencer = sequencer_repaired checkpoint next packet tick sent h o early late;
+      time_code = time_code_repaired checkpoint next packet tick sent h o early late;
+      sysex_count = number_of_messages_repaired checkpoint next packet tick sent o messages early late;
+      channels = λ channel l. record {
+        program = program_repaired channel l checkpoint next packet tick sent o early late;
+        control = λ number n. control_repaired channel number l n checkpoint next packet tick sent o early late;
+        toggles = toggles_repaired channel l checkpoint next packet tick sent o early late;
+        selection = selection_repaired channel l checkpoint next packet tick sent o early late;
+        wheel = wheel_repaired channel l checkpoint next packet tick sent o early late;
+        note = λ note n. note_repaired channel note l n checkpoint next packet tick sent o early late;
+        pressure = pressure_repaired channel l checkpoint next packet tick sent o early late;
+        poly = λ note n. poly_repaired channel note l n checkpoint next packet tick sent o early late;
       };
     })
+    (λ channel nrpn high low l n. param_agrees channel l checkpoint next packet tick sent s o early late is agrees (few_of channel (below packet_of packet sent) n) nrpn high low)
     is agrees

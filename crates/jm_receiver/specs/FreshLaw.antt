@@ -14,6 +14,7 @@ use Rattle.ch_notes.specs.declared.events.NoteEvent.{NoteEvent}
 use Rattle.ch_notes.specs.declared.events.NoteEvent.TheVariants as notes
 use Rattle.ch_notes.specs.ChapterN.{is_released, released, released_fresh, coded_notes}
 use Rattle.ch_notes.specs.NoteEvent.{event_at, event_ends, note_ends}
+use Rattle.ch_sysex.specs.Limits.{sysex_logs-later}
 use Rattle.jm_state.specs.declared.state.State.{State}
 use Rattle.jm_state.specs.Parts.{no_state, song_of, sequencer_of, time_code_of, program_of, control_of, toggles_of, pedal_of, selection_of, wheel_of, note_of, pressure_of, poly_of, sysex_count_of}
 use Rattle.jm_state.specs.Apply.{sounding}
@@ -49,7 +50,9 @@ use Rattle.jm_receiver.specs.PressureLaw.{pressure_groups, pressure_log_says, pr
 use Rattle.jm_receiver.specs.PolyLaw.{poly_groups, poly_log_says, poly_is, poly_repaired}
 use Rattle.jm_receiver.specs.SongLaw.{song_log_says, song_is, song_repaired}
 use Rattle.jm_receiver.specs.Laws.{FreshLogsRepair}
-use Rattle.jm_receiver.specs.FreshLogs.{fresh_of, FreshRepairs, FreshRepairsCommands, kept, is_exact, places_fresh, c_fresh, group_fresh, session_fresh, channels_fresh, reset_fresh}
+use Rattle.jm_receiver.specs.MessageLaw.{number_of_messages_repaired}
+use Rattle.jm_receiver.specs.FreshParams.{param_by_fresh}
+use Rattle.jm_receiver.specs.FreshLogs.{fresh_of, FreshRepairs, FreshRepairsCommands, FreshRepairsMessages, kept, is_exact, places_fresh, c_fresh, group_fresh, session_fresh, channels_fresh, reset_fresh}
 
 -- ## A part of a channel
 
@@ -436,6 +439,11 @@ module _ (checkpoint last tick : ℕ) (sent : List Sent) (early : checkpoint ≤
       ∙ ap sysex_count_of (ap (λ b. messages_repaired fresh (cond b no_state s)) (reset_fresh checkpoint last sent early tick) ∙ messages_same (cleared others s))
       ∙ sym ((session_stays s others).sysex_count ∙ count_left (messages_repaired others (cleared others s)) others)
 
+pub messages_by_fresh : FreshRepairsMessages
+messages_by_fresh checkpoint last tick sent o few early =
+    count_by_fresh checkpoint last tick sent early (state_behind no_state (below packet_of last sent))
+    ∙ number_of_messages_repaired last last (last + 1) tick sent o (let fewer = sysex_logs-later checkpoint last (below packet_of (last + 1) sent) early in omega (arith, few, fewer)) (omega arith) (omega arith)
+
 -- ## All of them
 
 -- The fresh logs alone repair what they are to.
@@ -452,4 +460,6 @@ fresh_repair = record {
   song = song_by_fresh;
   sequencer = sequencer_by_fresh;
   time_code = time_code_by_fresh;
+  messages = messages_by_fresh;
+  param = param_by_fresh;
 }

@@ -44,10 +44,10 @@ use Rattle.ch_system.specs.ChapterD.{song_of}
 use Rattle.ch_system.specs.Items.{item_coded, item_count, item_ends, is_place_of}
 use Rattle.ch_sysex.specs.declared.events.SysexEvent.{SysexEvent}
 use Rattle.ch_sysex.specs.declared.events.SysexEvent.TheVariants as messages
-use Rattle.ch_sysex.specs.ChapterX.{counted_ends, coded_counted}
+use Rattle.ch_sysex.specs.ChapterX.{counted_ends, coded_counted, sysex_logs}
 use Rattle.ch_sysex.specs.SysexEvent.{event_at as message_at, data_of, count_step}
 use Rattle.jm_state.specs.declared.state.State.{State}
-use Rattle.jm_state.specs.Parts.{no_state}
+use Rattle.jm_state.specs.Parts.{no_state, sysex_count_of}
 use Rattle.jm_state.specs.ReplayLaws.{state_behind}
 use Rattle.jm_reader.specs.declared.logs.Log.{Log}
 use Rattle.jm_reader.specs.declared.logs.LogKind.{LogKind}
@@ -90,6 +90,12 @@ abbrev pub FreshRepairsCommands : {V : Type 0} → (State → V) → Type 0
 FreshRepairsCommands part =
     (checkpoint last tick : ℕ) (sent : List Sent) → AreCommands sent → InOrder packet_of sent → checkpoint ≤ last →
     part (repaired (state_behind no_state (below packet_of last sent)) (fresh_of (journal_logs checkpoint (last + 1) tick sent))) ≡ part (state_behind no_state (below packet_of (last + 1) sent))
+
+-- the same of the number of messages, where the journal has at most 128 logs of them, as the limits of a session ask (`KeepsLimits`)
+abbrev pub FreshRepairsMessages : Type 0
+FreshRepairsMessages =
+    (checkpoint last tick : ℕ) (sent : List Sent) → InOrder packet_of sent → sysex_logs checkpoint (below packet_of (last + 1) sent) ≤ 128 → checkpoint ≤ last →
+    sysex_count_of (repaired (state_behind no_state (below packet_of last sent)) (fresh_of (journal_logs checkpoint (last + 1) tick sent))) ≡ sysex_count_of (state_behind no_state (below packet_of (last + 1) sent))
 
 -- ## Places
 

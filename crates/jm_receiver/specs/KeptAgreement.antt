@@ -156,7 +156,7 @@ commands_agree before after s is agrees =
 -- ## A packet that is taken
 
 -- the packets before the next one are those before this one with this one
-below_one : (packet : ℕ) (sent : List Sent) → InOrder packet_of sent → below packet_of (packet + 1) sent ≡ below packet_of packet sent ++ within packet_of packet sent
+pub below_one : (packet : ℕ) (sent : List Sent) → InOrder packet_of sent → below packet_of (packet + 1) sent ≡ below packet_of packet sent ++ within packet_of packet sent
 below_one packet sent o =
     in_two packet_of packet (below packet_of (packet + 1) sent) (InOrder-filter packet_of _ sent o)
     ∙ ap (λ (xs : List Sent). xs ++ since packet_of packet (below packet_of (packet + 1) sent)) (below_next packet (packet + 1) sent (omega arith))

@@ -11,7 +11,8 @@ use Rattle.jm_receiver.specs.Accept.{accepted}
 use Rattle.jm_receiver.specs.Repair.{repaired}
 use Rattle.jm_receiver.specs.Repairs.{Repairs}
 use Rattle.jm_receiver.specs.KnownLaw.{RepairsCommands}
-use Rattle.jm_receiver.specs.FreshLogs.{FreshRepairs, FreshRepairsCommands}
+use Rattle.jm_receiver.specs.FreshLogs.{FreshRepairs, FreshRepairsCommands, FreshRepairsMessages}
+use Rattle.jm_receiver.specs.FreshParams.{FreshRepairsFew}
 use Rattle.jm_receiver.specs.MessageLaw.{RepairsMessages}
 use Rattle.jm_receiver.specs.ParamLaw.{RepairsFew}
 use Rattle.jm_receiver.specs.Whole.{IsWhole, IsReceived}
@@ -69,6 +70,10 @@ pub record FreshLogsRepair : Type 0 where
   pub song : FreshRepairs song_of
   pub sequencer : FreshRepairsCommands sequencer_of
   pub time_code : FreshRepairsCommands time_code_of
+  -- where the journal has at most 128 logs of messages
+  pub messages : FreshRepairsMessages
+  -- where at most 16 different parameters were entered in the channel since the last Reset State command
+  pub param : (channel : ℕ) (nrpn : Bool) (high low : ℕ) → channel < 16 → FreshRepairsFew channel (λ s. param_of s channel nrpn high low)
 
 -- the number of System Exclusive messages since the last Reset State command, where a journal has at most 128 of their logs
 abbrev pub MessagesAreRepaired : Type 0

@@ -30,7 +30,10 @@ pub mod ParamKeys
 pub mod ParamPlaces
 pub mod ParamLogs
 pub mod ParamLaw
+pub mod FreshParams
 pub mod Whole
 pub mod Congruence
 pub mod Agreement
 pub mod KeptAgreement
+pub mod FreshAgreement
+pub mod InStep

@@ -109,7 +109,7 @@ mapped P Q log h [] a = tt
 mapped P Q log h (e ∷ es) a = (h e a.0, mapped P Q log h es a.1)
 
 -- the logs of Chapter M are of known parameters
-m_fits : (channel : ℕ) (known : List Param) (checkpoint packet : ℕ) (sent : List Sent) → Knows channel known (session_places channel (below packet_of packet sent)) → (at : ℕ) → AllByRecursion (λ log. Fits channel known log.what) (m_said at checkpoint packet sent)
+pub m_fits : (channel : ℕ) (known : List Param) (checkpoint packet : ℕ) (sent : List Sent) → Knows channel known (session_places channel (below packet_of packet sent)) → (at : ℕ) → AllByRecursion (λ log. Fits channel known log.what) (m_said at checkpoint packet sent)
 unfolding m_said
 m_fits channel known checkpoint packet sent k at =
     elim (cases_Bool (eqb at channel)) [
@@ -168,7 +168,7 @@ module _ (channel checkpoint : ℕ) (p : Param) (half : Bool) where
         | inr f ↦ rw f (since_says old xs)
       ]
 
-  coded_said : (xs : List Place) → InOrder packet_at xs → coded_half channel checkpoint xs p half ≡ said (final says (since packet_at checkpoint xs)) None
+  pub coded_said : (xs : List Place) → InOrder packet_at xs → coded_half channel checkpoint xs p half ≡ said (final says (since packet_at checkpoint xs)) None
   coded_said xs o =
       let step = place_step channel checkpoint p half in
       sym (coded_half-fold channel checkpoint p half xs)
@@ -275,7 +275,7 @@ module _ (channel checkpoint : ℕ) (p : Param) (half : Bool) where
   set_too (Some (Some n)) b value f h = f
 
   -- where a half is coded, its parameter is among those that have a log
-  param_coded : (xs : List Place) (value : ℕ) → InOrder packet_at xs → coded_half channel checkpoint xs p half ≡ Some value → list_any (λ (e : Coded). same_param p e.param) (entered channel checkpoint xs) ≡ true
+  pub param_coded : (xs : List Place) (value : ℕ) → InOrder packet_at xs → coded_half channel checkpoint xs p half ≡ Some value → list_any (λ (e : Coded). same_param p e.param) (entered channel checkpoint xs) ≡ true
   param_coded xs value o h =
       let ys = since packet_at checkpoint xs in
       let places = coded (param_ends channel) packet_at checkpoint xs in
@@ -294,7 +294,7 @@ module _ (channel checkpoint : ℕ) (p : Param) (half : Bool) where
 
   -- ## What the chapter says
 
-  chosen : (w : Option (Option ℕ)) (es : List Coded) → final (λ (e : Coded). cond (same_param p e.param) w None) es ≡ cond (list_any (λ (e : Coded). same_param p e.param) es) w None
+  pub chosen : (w : Option (Option ℕ)) (es : List Coded) → final (λ (e : Coded). cond (same_param p e.param) w None) es ≡ cond (list_any (λ (e : Coded). same_param p e.param) es) w None
   chosen w [] = refl
   chosen w (e ∷ es) =
       let ih = chosen w es in
@@ -307,7 +307,7 @@ module _ (channel checkpoint : ℕ) (p : Param) (half : Bool) where
       twice None = refl
       twice (Some w) = refl
 
-  half_coded : (xs : List Place) (e : Coded) (b : Bool) → cond (eqb channel channel && same_param p e.param) (as_said (cond b (coded_half channel checkpoint xs e.param true) (coded_half channel checkpoint xs e.param false))) None
+  pub half_coded : (xs : List Place) (e : Coded) (b : Bool) → cond (eqb channel channel && same_param p e.param) (as_said (cond b (coded_half channel checkpoint xs e.param true) (coded_half channel checkpoint xs e.param false))) None
       ≡ cond (same_param p e.param) (as_said (coded_half channel checkpoint xs p b)) None
   half_coded xs e b =
       rw (eq-eqb channel channel refl)
@@ -363,7 +363,7 @@ module _ (channel checkpoint : ℕ) (p : Param) (half : Bool) where
       last true = refl
       last false = refl
 
-  dropped_clears : (xs : List Place) → final says xs ≡ Some None → list_any (clears channel) xs ≡ true
+  pub dropped_clears : (xs : List Place) → final says xs ≡ Some None → list_any (clears channel) xs ≡ true
   dropped_clears [] h = absurd (let x : ◌≡◌ {A = Option (Option ℕ)} None (Some None) = h in cc)
   dropped_clears (x ∷ xs) h =
       dropped_over (final says xs) (says x) (list_any (clears channel) xs) h (dropped_clears xs) (clears channel x) (dropped_by (event_at channel x))
@@ -410,7 +410,7 @@ any_left test q (x ∷ xs) h =
     ]
 
 -- the journal has a reset where one of the places clears
-reset_clears : (channel checkpoint packet tick : ℕ) (sent : List Sent) → InOrder packet_of sent → has_reset (journal_logs checkpoint packet tick sent) ≡ list_any (clears channel) (recent channel checkpoint (below packet_of packet sent))
+pub reset_clears : (channel checkpoint packet tick : ℕ) (sent : List Sent) → InOrder packet_of sent → has_reset (journal_logs checkpoint packet tick sent) ≡ list_any (clears channel) (recent channel checkpoint (below packet_of packet sent))
 reset_clears channel checkpoint packet tick sent o =
     let seen = below packet_of packet sent in
     reset_of_journal checkpoint packet tick sent o
@@ -444,6 +444,63 @@ half_none false p = refl
 abbrev pub read_half : (channel : ℕ) → Param → Bool → State → Option ℕ
 read_half channel p half s = half_of half (halves_in (entered_of s channel) p)
 
+-- the places before a packet, among those before a later one
+pub places_before : (channel next packet : ℕ) (sent : List Sent) → InOrder packet_of sent → next ≤ packet → session_places channel (below packet_of next sent) ≡ below packet_at next (session_places channel (below packet_of packet sent))
+places_before channel next packet sent o late =
+    let seen = below packet_of packet sent in
+    ap (session_places channel) (sym (below_next next packet sent late)) ∙ sym (below-scanned (selection_step channel) packet_of next no_selection seen (InOrder-filter packet_of _ sent o))
+
+known_logs : (channel : ℕ) (known : List Param) (logs : List Log) → AllByRecursion (λ (log : Log). Fits channel known log.what) logs → AllByRecursion (λ (log : Log). IsLogOfKnown channel known log.what) logs
+known_logs channel known [] a = tt
+known_logs channel known (log ∷ logs) a = ((a.0).is_known, known_logs channel known logs a.1)
+
+-- Repair by logs of known parameters, of a state whose parameters are known unless a reset clears them, leaves of a half what the last log
+-- that speaks of it says, behind the resets.
+pub half_told : (channel : ℕ) → channel < 16 → (known : List Param) → length known ≤ 16 → (p : Param) (half : Bool) (s : State) (logs : List Log) → IsState s → AllByRecursion (λ (log : Log). Fits channel known log.what) (all_in_order logs) →
+    (has_reset logs ≡ false → Holds known (entered_of s channel)) →
+    read_half channel p half (repaired s logs) ≡ said (over (final (log_says (param_log_says channel p half)) (all_in_order logs)) (ended (has_reset logs))) (read_half channel p half s)
+half_told channel l known few p half s logs is fits holds =
+    let told = final (log_says (param_log_says channel p half)) (all_in_order logs) in
+    let absent : entered_of no_state channel ≡ [] = ap (λ (c : ChannelState). c.entered) (no_channel_at channel l) in
+    let begins : Holds known (entered_of (cleared logs s) channel) =
+    elim (cases_Bool (has_reset logs)) [
+      | inl t ↦ rw t (subst (Holds known) (sym absent) (holds_none known))
+      | inr f ↦ rw f (holds f)
+    ] in
+    let start : read_half channel p half (cleared logs s) ≡ said (ended (has_reset logs)) (read_half channel p half s) =
+    elim (cases_Bool (has_reset logs)) [
+      | inl t ↦ rw t (ap (λ (es : List Entry). half_of half (halves_in es p)) absent ∙ half_none half p)
+      | inr f ↦ rw f refl
+    ] in
+    ap (λ (es : List Entry). half_of half (halves_in es p)) (entered_repaired channel l known s logs is fits)
+    ∙ logs_said channel known few p half (entered_of (cleared logs s) channel) (all_in_order logs) begins (known_logs channel known (all_in_order logs) fits)
+    ∙ ap (said told) start
+    ∙ said-over told (ended (has_reset logs)) (read_half channel p half s)
+
+-- Where a state has of a half what the places before packet `next` say, unless a later place clears it, the places from one that isn't later
+-- than `next` on make of it what the state behind all of them has.
+pub half_session : (channel : ℕ) → channel < 16 → (p : Param) (half : Bool) (from next packet : ℕ) (sent : List Sent) (s : State) → InOrder packet_of sent → from ≤ next → next ≤ packet →
+    length (params_entered channel (below packet_of packet sent)) ≤ 16 →
+    (list_any (clears channel) (recent channel from (below packet_of packet sent)) ≡ false → read_half channel p half s ≡ said (final (place_says channel p half) (session_places channel (below packet_of next sent))) None) →
+    said (final (place_says channel p half) (recent channel from (below packet_of packet sent))) (read_half channel p half s) ≡ read_half channel p half (state_behind no_state (below packet_of packet sent))
+half_session channel l p half from next packet sent s o early late few had =
+    let seen = below packet_of packet sent in
+    let known = params_entered channel seen in
+    let places = session_places channel seen in
+    let ys = recent channel from seen in
+    let says = place_says channel p half in
+    let ordered : InOrder packet_at places = InOrder-scanned packet_of (selection_step channel) no_selection seen (InOrder-filter packet_of _ sent o) in
+    let whole : read_half channel p half (state_behind no_state seen) ≡ said (final says places) None =
+    ap (λ (es : List Entry). half_of half (halves_in es p)) (entered_session channel seen l)
+    ∙ half_behind channel known few p half [] places (λ n. holds_none known) (knows_own channel [] places)
+    ∙ ap (said (final says places)) (half_none half p) in
+    elim (cases_Bool (list_any (clears channel) ys)) [
+      | inl t ↦ anew (final says ys) (read_half channel p half s) (said (final says (below packet_at next places)) None) (clears_speak channel p half ys t)
+      | inr f ↦ ap (said (final says ys)) (had f ∙ ap (λ (xs : List Place). said (final says xs) None) (places_before channel next packet sent o late))
+    ]
+    ∙ repaired_by says packet_at from next None places (final says ys) ordered early refl
+    ∙ sym whole
+
 -- Repair of a state whose parameters are known, unless a reset clears them, and that has of a half what the places before packet `next`
 -- say of it.
 pub half_from : (channel : ℕ) → channel < 16 → (p : Param) (half : Bool) (checkpoint next packet tick : ℕ) (sent : List Sent) (s : State) → InOrder packet_of sent → checkpoint ≤ next → next ≤ packet → IsState s →
@@ -452,51 +509,13 @@ pub half_from : (channel : ℕ) → channel < 16 → (p : Param) (half : Bool) (
     (list_any (clears channel) (recent channel checkpoint (below packet_of packet sent)) ≡ false → read_half channel p half s ≡ said (final (place_says channel p half) (session_places channel (below packet_of next sent))) None) →
     read_half channel p half (repaired s (journal_logs checkpoint packet tick sent)) ≡ read_half channel p half (state_behind no_state (below packet_of packet sent))
 half_from channel l p half checkpoint next packet tick sent s o early late is few holds had =
-    let seen = below packet_of packet sent in
-    let known = params_entered channel seen in
-    let places = session_places channel seen in
-    let ys = recent channel checkpoint seen in
-    let seen_ordered : InOrder packet_of seen = InOrder-filter packet_of _ sent o in
-    let ordered : InOrder packet_at places = InOrder-scanned packet_of (selection_step channel) no_selection seen seen_ordered in
-    let logs = journal_logs checkpoint packet tick sent in
-    let says = place_says channel p half in
-    let knows : Knows channel known places = knows_own channel [] places in
-    let fits = journal_fits channel known checkpoint packet tick sent (m_fits channel known checkpoint packet sent knows) in
-    let same_reset = reset_clears channel checkpoint packet tick sent o in
-    let heard = param_heard channel l p half checkpoint packet tick sent o in
-    let spoken = final (log_says (param_log_says channel p half)) (all_in_order logs) in
-    let absent : entered_of no_state channel ≡ [] = ap (λ (c : ChannelState). c.entered) (no_channel_at channel l) in
-    let begins : Holds known (entered_of (cleared logs s) channel) =
-    elim (cases_Bool (has_reset logs)) [
-      | inl t ↦ rw t (subst (Holds known) (sym absent) (holds_none known))
-      | inr f ↦ rw f (holds (sym same_reset ∙ f))
-    ] in
-    let cut : session_places channel (below packet_of next sent) ≡ below packet_at next places =
-    ap (session_places channel) (sym (below_next next packet sent late)) ∙ sym (below-scanned (selection_step channel) packet_of next no_selection seen seen_ordered) in
-    let start : read_half channel p half (cleared logs s) ≡ said (ended (has_reset logs)) (read_half channel p half s) =
-    elim (cases_Bool (has_reset logs)) [
-      | inl t ↦ rw t (ap (λ (es : List Entry). half_of half (halves_in es p)) absent ∙ half_none half p)
-      | inr f ↦ rw f refl
-    ] in
-    let whole : read_half channel p half (state_behind no_state seen) ≡ said (final says places) None =
-    ap (λ (es : List Entry). half_of half (halves_in es p)) (entered_session channel seen l)
-    ∙ half_behind channel known few p half [] places (λ n. holds_none known) knows
-    ∙ ap (said (final says places)) (half_none half p) in
-    ap (λ (es : List Entry). half_of half (halves_in es p)) (entered_repaired channel l known s logs is fits)
-    ∙ logs_said channel known few p half (entered_of (cleared logs s) channel) (all_in_order logs) begins (known_logs channel known (all_in_order logs) fits)
-    ∙ ap (said spoken) start
-    ∙ said-over spoken (ended (has_reset logs)) (read_half channel p half s)
-    ∙ ap (λ (w : Option (Option ℕ)). said w (read_half channel p half s)) heard
-    ∙ elim (cases_Bool (list_any (clears channel) ys)) [
-      | inl t ↦ anew (final says ys) (read_half channel p half s) (said (final says (below packet_at next places)) None) (clears_speak channel p half ys t)
-      | inr f ↦ ap (said (final says ys)) (had f ∙ ap (λ (xs : List Place). said (final says xs) None) cut)
-    ]
-    ∙ repaired_by says packet_at checkpoint next None places (final says ys) ordered early refl
-    ∙ sym whole
-  where
-    known_logs : (channel : ℕ) (known : List Param) (logs : List Log) → AllByRecursion (λ (log : Log). Fits channel known log.what) logs → AllByRecursion (λ (log : Log). IsLogOfKnown channel known log.what) logs
-    known_logs channel known [] a = tt
-    known_logs channel known (log ∷ logs) a = ((a.0).is_known, known_logs channel known logs a.1)
+    let known = params_entered channel (below packet_of packet sent) in
+    let knows : Knows channel known (session_places channel (below packet_of packet sent)) = knows_own channel [] (session_places channel (below packet_of packet sent)) in
+    half_told channel l known few p half s (journal_logs checkpoint packet tick sent) is
+    (journal_fits channel known checkpoint packet tick sent (m_fits channel known checkpoint packet sent knows))
+    (λ f. holds (sym (reset_clears channel checkpoint packet tick sent o) ∙ f))
+    ∙ ap (λ (w : Option (Option ℕ)). said w (read_half channel p half s)) (param_heard channel l p half checkpoint packet tick sent o)
+    ∙ half_session channel l p half checkpoint next packet sent s o early late few had
 
 -- The places before packet `next`, and those from it on, which clear nothing.
 record AreParted (channel next packet : ℕ) (sent : List Sent) : Type 0 where
@@ -509,10 +528,8 @@ parted : (channel checkpoint next packet : ℕ) (sent : List Sent) → InOrder p
 parted channel checkpoint next packet sent o early late f =
     let seen = below packet_of packet sent in
     let places = session_places channel seen in
-    let seen_ordered : InOrder packet_of seen = InOrder-filter packet_of _ sent o in
-    let ordered : InOrder packet_at places = InOrder-scanned packet_of (selection_step channel) no_selection seen seen_ordered in
-    let front : session_places channel (below packet_of next sent) ≡ below packet_at next places =
-    ap (session_places channel) (sym (below_next next packet sent late)) ∙ sym (below-scanned (selection_step channel) packet_of next no_selection seen seen_ordered) in
+    let ordered : InOrder packet_at places = InOrder-scanned packet_of (selection_step channel) no_selection seen (InOrder-filter packet_of _ sent o) in
+    let front = places_before channel next packet sent o late in
     let later : since packet_at next (since packet_at checkpoint places) ≡ since packet_at next places =
     filter-filter (λ (x : Place). leb checkpoint (packet_at x)) (λ (x : Place). leb next (packet_at x)) (λ x h. let u : next ≤ packet_at x = leb-true next (packet_at x) h in le-leb checkpoint (packet_at x) (omega (arith, u, early))) places in
     record {

@@ -2,7 +2,7 @@
 use Rattle.std.proofs.lemmas.Bool.{not-true}
 use Rattle.std.proofs.Common.{◌≡◌, ℕ, ◌%◌, ◌<◌, ◌≤◌, Bool, true, false, not, cond, ◌&&◌, eqb, List, [], ◌∷◌, Option, Some, None, fold, length, refl, sym, ap, ◌∙◌, inl, inr, arith}
 use Rattle.std.proofs.Math.Bool.{beq}
-use Rattle.std.specs.List.{flat_map, list_any, AllByRecursion}
+use Rattle.std.specs.List.{flat_map, list_any, filter, AllByRecursion}
 use Rattle.std.proofs.lemmas.Bool.{cases_Bool, eqb-true, eq-eqb, and_parts}
 use Rattle.std.proofs.lemmas.Bool.Decides.{nat_tests}
 use Rattle.jm_cmds.specs.declared.commands.Command.{Command}
@@ -14,7 +14,7 @@ use Rattle.jm_cmds.specs.declared.param.Param.{Param}
 use Rattle.jm_cmds.specs.Control.{control_kind, is_entry, is_counted, is_reset}
 use Rattle.jm_cmds.specs.ControlLaws.{is_entry_kind, is_entry-kind}
 use Rattle.jm_cmds.specs.History.{below}
-use Rattle.jm_cmds.specs.HistoryLaws.{AllByRecursion-append, AllByRecursion-weaker}
+use Rattle.jm_cmds.specs.HistoryLaws.{AllByRecursion-append, AllByRecursion-filter, AllByRecursion-weaker}
 use Rattle.jm_cmds.specs.Param.{same_param}
 use Rattle.jm_cmds.specs.Selection.{control_command}
 use Rattle.jm_cmds.specs.Sent.{packet_of, is_fresh}
@@ -46,7 +46,7 @@ use Rattle.jm_receiver.specs.Group.{is_of, all_groups, all_channels}
 use Rattle.jm_receiver.specs.Repair.{has_reset, cleared, counts, with_message, messages_repaired, with_session_log, high_entered, low_entered, with_channel_log, repaired}
 use Rattle.jm_receiver.specs.Order.{of_group, in_order, with_log, log_says, session_done, repaired-fold, channel_log_is, session_is, high_is, tag, rank, is_of-tag, final-filter_none, all_of}
 use Rattle.jm_receiver.specs.SystemLogs.{all_flat}
-use Rattle.jm_receiver.specs.Chapters.{group_logs, group_tagged, in_order_of_journal}
+use Rattle.jm_receiver.specs.Chapters.{group_logs, group_tagged, in_order_of_journal, in_order_of_fresh}
 use Rattle.jm_receiver.specs.Repairs.{session_channels}
 use Rattle.jm_receiver.specs.ParamKeys.{is_known, Holds, holds_entered, half_of, half_entered}
 
@@ -320,24 +320,30 @@ module _ (channel : ℕ) (known : List Param) where
     group_fits Pressures at = plain_group Pressures at channel checkpoint packet tick known sent refl
     group_fits Polys at = plain_group Polys at channel checkpoint packet tick known sent refl
 
-    channel_fits : (at : ℕ) → at < 16 → AllByRecursion (λ log. FitsLog log.what) (in_order at (journal_logs checkpoint packet tick sent))
-    channel_fits at l =
-        rw (in_order_of_journal at checkpoint packet tick sent l)
-        (all_flat (λ log. FitsLog log.what) (λ group. group_logs group at checkpoint packet tick sent) (λ group. group_fits group at) all_groups)
-
-    channels_fit : (channels : List ℕ) → AllByRecursion (λ at. at < 16) channels → AllByRecursion (λ log. FitsLog log.what) (flat_map (λ at. in_order at (journal_logs checkpoint packet tick sent)) channels)
-    channels_fit [] h = tt
-    channels_fit (at ∷ more) h =
-        AllByRecursion-append (λ log. FitsLog log.what) (in_order at (journal_logs checkpoint packet tick sent)) (flat_map (λ k. in_order k (journal_logs checkpoint packet tick sent)) more)
-        (channel_fits at h.0) (channels_fit more h.1)
-
     sixteen : AllByRecursion (λ at. at < 16) all_channels
     unfolding all_channels
     sixteen = (omega arith, (omega arith, (omega arith, (omega arith, (omega arith, (omega arith, (omega arith, (omega arith, (omega arith, (omega arith, (omega arith, (omega arith, (omega arith, (omega arith, (omega arith, (omega arith, tt))))))))))))))))
 
+    -- of logs that stand group by group
+    logs_fit : (logs : List Log) (by_group : ℕ → Group → List Log) → ((at : ℕ) → at < 16 → in_order at logs ≡ flat_map (by_group at) all_groups) → ((group : Group) (at : ℕ) → AllByRecursion (λ log. FitsLog log.what) (by_group at group)) →
+        (channels : List ℕ) → AllByRecursion (λ at. at < 16) channels → AllByRecursion (λ log. FitsLog log.what) (flat_map (λ at. in_order at logs) channels)
+    logs_fit logs by_group order fit [] h = tt
+    logs_fit logs by_group order fit (at ∷ more) h =
+        let here : AllByRecursion (λ log. FitsLog log.what) (in_order at logs) = rw (order at h.0) (all_flat (λ log. FitsLog log.what) (by_group at) (λ group. fit group at) all_groups) in
+        AllByRecursion-append (λ log. FitsLog log.what) (in_order at logs) (flat_map (λ k. in_order k logs) more) here (logs_fit logs by_group order fit more h.1)
+
     -- All logs of a journal may be taken, where those of Chapter M may.
     pub journal_fits : AllByRecursion (λ log. FitsLog log.what) (all_in_order (journal_logs checkpoint packet tick sent))
-    journal_fits = channels_fit all_channels sixteen
+    journal_fits =
+        logs_fit (journal_logs checkpoint packet tick sent) (λ at group. group_logs group at checkpoint packet tick sent)
+        (λ at l. in_order_of_journal at checkpoint packet tick sent l) group_fits all_channels sixteen
+
+    -- and so may the fresh ones
+    pub fresh_fit : AllByRecursion (λ log. FitsLog log.what) (all_in_order (filter (λ log. log.fresh) (journal_logs checkpoint packet tick sent)))
+    fresh_fit =
+        logs_fit (filter (λ log. log.fresh) (journal_logs checkpoint packet tick sent)) (λ at group. filter (λ log. log.fresh) (group_logs group at checkpoint packet tick sent))
+        (λ at l. in_order_of_fresh at checkpoint packet tick sent l)
+        (λ group at. AllByRecursion-filter (λ log. FitsLog log.what) (λ log. log.fresh) (group_logs group at checkpoint packet tick sent) (group_fits group at)) all_channels sixteen
 
 -- ## Chapter M alone
 
@@ -384,21 +390,34 @@ module _ (channel : ℕ) (l : channel < 16) (p : Param) (half : Bool) where
       (all_of (λ group. final says (of_group group other logs) ≡ None)
       (λ group. final-filter_none says (λ log. is_of group other log.what) (λ log h. elsewhere group channel other p half log.what apart h) logs) all_groups)
 
-  silent_group : (group : Group) (checkpoint packet tick : ℕ) (sent : List Sent) → eqb (rank group) 1 ≡ false → final says (group_logs group channel checkpoint packet tick sent) ≡ None
-  silent_group group checkpoint packet tick sent h =
-      final-none says (group_logs group channel checkpoint packet tick sent)
-      (AllByRecursion-weaker (λ (log : Log). tag log.what ≡ Some (group, channel)) (λ log. says log ≡ None)
-      (λ log e. untold channel p half group log.what h e) (group_logs group channel checkpoint packet tick sent) (group_tagged group channel checkpoint packet tick sent))
+  abbrev AreOfGroup : Group → List Log → Type 0
+  AreOfGroup group logs = AllByRecursion (λ log. tag log.what ≡ Some (group, channel)) logs
 
-  -- Of a journal's logs, in the order of repair, those of the channel's Chapter M alone speak of its parameters.
-  pub m_alone : (checkpoint packet tick : ℕ) (sent : List Sent) → final says (all_in_order (journal_logs checkpoint packet tick sent)) ≡ final says (m_said channel checkpoint packet sent)
+  silent_group : (group : Group) (logs : List Log) → eqb (rank group) 1 ≡ false → AreOfGroup group logs → final says logs ≡ None
+  silent_group group logs h tagged =
+      final-none says logs (AllByRecursion-weaker (λ (log : Log). tag log.what ≡ Some (group, channel)) (λ log. says log ≡ None) (λ log e. untold channel p half group log.what h e) logs tagged)
+
+  -- of logs that stand group by group
+  params_alone : (logs : List Log) (by_group : Group → List Log) → in_order channel logs ≡ flat_map by_group all_groups → ((group : Group) → AreOfGroup group (by_group group)) → final says (all_in_order logs) ≡ final says (by_group Params)
   unfolding all_groups
-  m_alone checkpoint packet tick sent =
-      let logs = journal_logs checkpoint packet tick sent in
-      let none = λ (group : Group) (h : eqb (rank group) 1 ≡ false). silent_group group checkpoint packet tick sent h in
+  params_alone logs by_group order tagged =
+      let none = λ (group : Group) (h : eqb (rank group) 1 ≡ false). silent_group group (by_group group) h (tagged group) in
       final-flat_map says (λ k. in_order k logs) all_channels
       ∙ final-one (λ k. final says (in_order k logs)) channel all_channels (silent_elsewhere logs)
       (λ k e. let same : channel ≡ k = eqb-true channel k e in ap (λ (n : ℕ). final says (in_order n logs)) (sym same)) (in_16 channel l)
-      ∙ ap (final says) (in_order_of_journal channel checkpoint packet tick sent l)
-      ∙ final-flat_map says (λ group. group_logs group channel checkpoint packet tick sent) all_groups
-      ∙ rw (none Programs refl, none Controls refl, none Wheels refl, none Released refl, none Struck refl, none Pressures refl, none Polys refl) (over_none (final says (m_said channel checkpoint packet sent)))
+      ∙ ap (final says) order
+      ∙ final-flat_map says by_group all_groups
+      ∙ rw (none Programs refl, none Controls refl, none Wheels refl, none Released refl, none Struck refl, none Pressures refl, none Polys refl) (over_none (final says (by_group Params)))
+
+  -- Of a journal's logs, in the order of repair, those of the channel's Chapter M alone speak of its parameters.
+  pub m_alone : (checkpoint packet tick : ℕ) (sent : List Sent) → final says (all_in_order (journal_logs checkpoint packet tick sent)) ≡ final says (m_said channel checkpoint packet sent)
+  m_alone checkpoint packet tick sent =
+      params_alone (journal_logs checkpoint packet tick sent) (λ group. group_logs group channel checkpoint packet tick sent) (in_order_of_journal channel checkpoint packet tick sent l)
+      (λ group. group_tagged group channel checkpoint packet tick sent)
+
+  -- and so it is of the fresh ones
+  pub fresh_alone : (checkpoint packet tick : ℕ) (sent : List Sent) → final says (all_in_order (filter (λ log. log.fresh) (journal_logs checkpoint packet tick sent))) ≡ final says (filter (λ log. log.fresh) (m_said channel checkpoint packet sent))
+  fresh_alone checkpoint packet tick sent =
+      params_alone (filter (λ log. log.fresh) (journal_logs checkpoint packet tick sent)) (λ group. filter (λ log. log.fresh) (group_logs group channel checkpoint packet tick sent))
+      (in_order_of_fresh channel checkpoint packet tick sent l)
+      (λ group. AllByRecursion-filter (λ (log : Log). tag log.what ≡ Some (group, channel)) (λ log. log.fresh) (group_logs group channel checkpoint packet tick sent) (group_tagged group channel checkpoint packet tick sent))

@@ -22,11 +22,12 @@ use Rattle.jm_state.specs.Parts.{no_state, selection_of, entered_of}
 use Rattle.jm_state.specs.Says.{said, selection_behind, entered_if, entered_behind}
 use Rattle.jm_state.specs.Kept.{IsState, no_channel_at}
 use Rattle.jm_state.specs.KeptLaws.{no_state_is, state_after_is}
+use Rattle.jm_state.specs.ParamLaws.{same_self}
 use Rattle.jm_state.specs.PartLaws.{by_part}
 use Rattle.jm_state.specs.Replay.{said-over}
 use Rattle.jm_state.specs.ReplayLaws.{state_behind}
 use Rattle.jm_state.specs.Final.{final, speaks, speaks-final}
-use Rattle.jm_receiver.specs.ParamKeys.{is_known, Holds, same_self, holds_none, holds_entered, half_of, half_says, half_entered}
+use Rattle.jm_receiver.specs.ParamKeys.{is_known, Holds, holds_none, holds_entered, half_of, half_says, half_entered}
 
 -- ## The parameters that were entered
 

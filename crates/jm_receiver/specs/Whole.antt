@@ -300,7 +300,7 @@ sent_whole : (h : Hearing) (items : List Item) → IsWhole h.state → IsWhole (
 sent_whole h [] is = is
 sent_whole h (item ∷ items) is = sent_whole (sent_also h item) items (heard_whole (record h { tick = (h.tick + item.delta) % 2 ^ 32 }) item.what is)
 
-used_whole : (uses : Uses) (logs : List Log) (h : Hearing) → IsWhole h.state → IsWhole (repaired_using uses logs h).state
+pub used_whole : (uses : Uses) (logs : List Log) (h : Hearing) → IsWhole h.state → IsWhole (repaired_using uses logs h).state
 used_whole Nothing logs h is = is
 used_whole Fresh logs h is = repaired_whole h.state (filter (λ log. log.fresh) logs) is
 used_whole All logs h is = repaired_whole h.state logs is

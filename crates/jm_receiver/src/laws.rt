@@ -7,6 +7,8 @@ ghost use Rattle.jm_receiver.specs.Laws.{ProgramsAreRepaired, ControlsAreRepaire
 ghost use Rattle.jm_receiver.specs.Laws.{MessagesAreRepaired, ParametersAreRepaired, ReceiversStayWhole, CommandsKeepAgreement};
 ghost use Rattle.jm_receiver.specs.Agreement.{StatesAreRepaired};
 ghost use Rattle.jm_receiver.specs.KeptAgreement.{InStepAgain};
+ghost use Rattle.jm_receiver.specs.FreshAgreement.{FreshLogsRepairStates, InStepByFresh};
+ghost use Rattle.jm_receiver.specs.InStep.{ReceiversComeInStep};
 
 /// The program of each channel is repaired, with the bank that it was chosen with.
 #[tactic(auto, using(crate::specs::ProgramLaw::program_repaired))]
@@ -68,8 +70,9 @@ pub fn selections_are_repaired()
     ensures { SelectionsAreRepaired }
 {}
 
-/// Where just one packet was lost, the fresh logs of the next one's journal repair each of these parts alone, though older released
-/// notes are among them.
+/// Where just one packet was lost, the fresh logs of the next one's journal alone repair each part, though older released notes and older
+/// halves of parameters are among them: the number of messages where the journal has at most 128 of their logs, and the parameters of
+/// a channel where at most 16 different ones were entered in it since the last Reset State command up to the lost packet.
 #[tactic(auto, using(crate::specs::FreshLaw::fresh_repair))]
 pub fn fresh_logs_repair()
     ensures { FreshLogsRepair }
@@ -112,4 +115,24 @@ pub fn states_are_repaired()
 /// commands it agrees with all packets up to it.
 pub fn states_are_in_step_again()
     ensures { InStepAgain }
+{}
+
+/// Whole states are repaired by the fresh logs alone where just one packet was lost: one that agrees with the packets before that one,
+/// repaired by the fresh logs of the next packet's journal, agrees with that one too.
+pub fn fresh_logs_repair_states()
+    ensures { FreshLogsRepairStates }
+{}
+
+/// A packet that is taken after just one lost one brings a state in step again by its fresh logs alone: repaired by them and then given
+/// the packet's commands it agrees with all packets up to it.
+pub fn fresh_logs_bring_in_step()
+    ensures { InStepByFresh }
+{}
+
+/// A whole receiver whose state agrees with all packets before the first one that it lacks takes a later packet of the stream under its
+/// own number, and its state agrees with all packets up to that one: whether none was lost between them, and the journal isn't used;
+/// just one, and the fresh logs alone are; or more, and all are. The packet is 1 to 32,767 ahead of the last one that was taken; the
+/// first one is below 65,536; and the journal's checkpoint isn't later than the first packet that the receiver lacks.
+pub fn receivers_come_in_step()
+    ensures { ReceiversComeInStep }
 {}

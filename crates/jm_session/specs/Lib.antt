@@ -2,3 +2,5 @@ pub mod Packets
 pub mod PacketLaws
 pub mod Premises
 pub mod PremiseLaws
+pub mod InStep
+pub mod InStepLaws

@@ -7,10 +7,16 @@ use Rattle.jm_cmds.specs.declared.history.Sent.{Sent}
 use Rattle.jm_cmds.specs.History.{below}
 use Rattle.jm_cmds.specs.HistoryLaws.{AllByRecursion-weaker}
 use Rattle.jm_cmds.specs.Sent.{packet_of}
+use Rattle.jm_journal.specs.Limits.{KeepsLimits}
 use Rattle.jm_state.specs.declared.state.State.{State}
 use Rattle.jm_state.specs.Parts.{no_state, song_of, sequencer_of, time_code_of, program_of, control_of, wheel_of, note_of, pressure_of, poly_of}
 use Rattle.jm_state.specs.ReplayLaws.{state_behind}
+use Rattle.jm_reader.specs.WrittenJournal.{journal_logs}
+use Rattle.jm_receiver.specs.Repair.{repaired}
 use Rattle.jm_receiver.specs.Repairs.{Repairs}
+use Rattle.jm_receiver.specs.Agreement.{Agrees, StatesAreRepaired}
+use Rattle.jm_receiver.specs.FreshLogs.{fresh_of}
+use Rattle.jm_receiver.specs.FreshAgreement.{FreshLogsRepairStates}
 use Rattle.jm_receiver.specs.KnownLaw.{RepairsCommands}
 use Rattle.jm_receiver.specs.Laws.{ProgramsAreRepaired, ControlsAreRepaired, WheelsAreRepaired, NotesAreRepaired, PressuresAreRepaired, SongIsRepaired, SequencerIsRepaired, TimeCodeIsRepaired}
 use Rattle.jm_book.specs.Stream.{Stream, Packet, stream_of, as_sent, sent_from, sent_of, pending_of}
@@ -22,8 +28,8 @@ use Rattle.jm_book.specs.StreamConduct.{Begins}
 use Rattle.jm_book.specs.StreamLaws.{keeps_packets}
 use Rattle.jm_book.specs.Commands.{AreCommands}
 use Rattle.jm_book.specs.CommandLaws.{keeps_commands, first_commands}
-use Rattle.jm_session.specs.Packets.{number_of, tick_of_cut}
-use Rattle.jm_session.specs.Premises.{sent_in, SessionsMeetPremises, SentStays, RepairsInSessions, SessionsAreRepaired}
+use Rattle.jm_session.specs.Packets.{number_of, tick_of_cut, logs_of_cut}
+use Rattle.jm_session.specs.Premises.{sent_in, SessionsMeetPremises, SentStays, RepairsInSessions, RepairsStatesInSessions, FreshLogsRepairInSessions, SessionsAreRepaired}
 
 pub premises_met : SessionsMeetPremises
 premises_met config steps legal brings =
@@ -39,7 +45,7 @@ premises_met config steps legal brings =
 
 -- ---- what was sent stays
 
-sent_from-append : (number : ℕ) (packets more : List Packet) → sent_from number (packets ++ more) ≡ sent_from number packets ++ sent_from (number + length packets) more
+pub sent_from-append : (number : ℕ) (packets more : List Packet) → sent_from number (packets ++ more) ≡ sent_from number packets ++ sent_from (number + length packets) more
 sent_from-append number [] more = let same : number + 0 ≡ number = omega arith in rw same refl
 sent_from-append number (one ∷ packets) more =
     let same : number + 1 + length packets ≡ number + length (one ∷ packets) = omega arith in
@@ -77,8 +83,28 @@ module _ {V : Type 0} (part : State → V) where
   pub also_in_sessions : Repairs part → RepairsInSessions part
   also_in_sessions law = in_sessions (λ checkpoint next packet tick sent commands. law checkpoint next packet tick sent)
 
-pub sessions_repaired : ProgramsAreRepaired → ControlsAreRepaired → WheelsAreRepaired → NotesAreRepaired → PressuresAreRepaired → SongIsRepaired → SequencerIsRepaired → TimeCodeIsRepaired → SessionsAreRepaired
-sessions_repaired programs controls wheels notes pressures song sequencer time_code = record {
+pub states_in_sessions : StatesAreRepaired → RepairsStatesInSessions
+states_in_sessions law config steps next tick s legal brings early late is agrees =
+    let session = session_of config steps in
+    let premises = premises_met config steps legal brings in
+    subst (Agrees (repaired s (logs_of_cut session tick))) premises.before
+    (law (checkpoint_of session) next (number_of session) (tick_of_cut session tick) (sent_in session) s premises.commands premises.in_order premises.limits.logs early late is agrees)
+
+pub fresh_in_sessions : FreshLogsRepairStates → FreshLogsRepairInSessions
+fresh_in_sessions law config steps last tick s legal brings early next is agrees =
+    let session = session_of config steps in
+    let sent = sent_in session in
+    let checkpoint = checkpoint_of session in
+    let premises = premises_met config steps legal brings in
+    let limits : KeepsLimits checkpoint (below packet_of (last + 1) sent) = subst (λ n. KeepsLimits checkpoint (below packet_of n sent)) next premises.limits in
+    let repairs : Agrees (repaired s (fresh_of (journal_logs checkpoint (last + 1) (tick_of_cut session tick) sent))) (below packet_of (last + 1) sent) =
+    law checkpoint last (tick_of_cut session tick) sent s premises.commands premises.in_order limits.logs early is agrees in
+    subst (Agrees (repaired s (fresh_of (logs_of_cut session tick)))) premises.before
+    (subst (λ n. Agrees (repaired s (fresh_of (journal_logs checkpoint n (tick_of_cut session tick) sent))) (below packet_of n sent)) (sym next) repairs)
+
+pub sessions_repaired : ProgramsAreRepaired → ControlsAreRepaired → WheelsAreRepaired → NotesAreRepaired → PressuresAreRepaired → SongIsRepaired → SequencerIsRepaired → TimeCodeIsRepaired →
+    StatesAreRepaired → FreshLogsRepairStates → SessionsAreRepaired
+sessions_repaired programs controls wheels notes pressures song sequencer time_code states fresh = record {
   programs = λ channel l. also_in_sessions (λ s. program_of s channel) (programs channel l);
   controls = λ channel control l m. also_in_sessions (λ s. control_of s channel control) (controls channel control l m);
   wheels = λ channel l. also_in_sessions (λ s. wheel_of s channel) (wheels channel l);
@@ -88,4 +114,6 @@ sessions_repaired programs controls wheels notes pressures song sequencer time_c
   song = also_in_sessions song_of song;
   sequencer = in_sessions sequencer_of sequencer;
   time_code = in_sessions time_code_of time_code;
+  states = states_in_sessions states;
+  states_by_fresh = fresh_in_sessions fresh;
 }

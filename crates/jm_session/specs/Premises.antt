@@ -1,5 +1,5 @@
 -- Sessions meet what the laws of repair ask, so those laws hold of them.
-use Rattle.std.specs.Prelude.{ℕ, ◌≡◌, ◌≤◌, ◌<◌, List, ◌++◌, length}
+use Rattle.std.specs.Prelude.{ℕ, ◌≡◌, ◌+◌, ◌≤◌, ◌<◌, List, ◌++◌, length}
 use Rattle.std.specs.List.{AllByRecursion}
 use Rattle.jm_cmds.specs.declared.history.Sent.{Sent}
 use Rattle.jm_cmds.specs.History.{below, InOrder}
@@ -9,6 +9,9 @@ use Rattle.jm_state.specs.declared.state.State.{State}
 use Rattle.jm_state.specs.Parts.{no_state, song_of, sequencer_of, time_code_of, program_of, control_of, wheel_of, note_of, pressure_of, poly_of}
 use Rattle.jm_state.specs.ReplayLaws.{state_behind}
 use Rattle.jm_receiver.specs.Repair.{repaired}
+use Rattle.jm_receiver.specs.Agreement.{Agrees}
+use Rattle.jm_receiver.specs.FreshLogs.{fresh_of}
+use Rattle.jm_receiver.specs.Whole.{IsWhole}
 use Rattle.jm_book.specs.declared.steps.Config.{Config}
 use Rattle.jm_book.specs.declared.steps.Step.{Step}
 use Rattle.jm_book.specs.Stream.{stream_of, sent_of}
@@ -51,7 +54,24 @@ RepairsInSessions part =
     → part (repaired (state_behind no_state (below packet_of next (sent_in (session_of config steps)))) (logs_of_cut (session_of config steps) tick))
     ≡ part (state_behind no_state (sent_in (session_of config steps)))
 
--- the parts that repair by all logs of a journal leaves as the sender has them
+-- Repair of a whole state that agrees with the packets before `next`, by the logs of the packet that is cut next, leaves one that agrees
+-- with all sent commands: wherever the session's checkpoint isn't later than `next`.
+abbrev pub RepairsStatesInSessions : Type 0
+RepairsStatesInSessions =
+    (config : Config) (steps : List Step) (next tick : ℕ) (s : State) → IsLegal config steps → HaveCommands steps
+    → checkpoint_of (session_of config steps) ≤ next → next ≤ number_of (session_of config steps)
+    → IsWhole s → Agrees s (below packet_of next (sent_in (session_of config steps)))
+    → Agrees (repaired s (logs_of_cut (session_of config steps) tick)) (sent_in (session_of config steps))
+
+-- The fresh logs alone do it where the state lacks just the last packet, and the session's checkpoint isn't later than that one.
+abbrev pub FreshLogsRepairInSessions : Type 0
+FreshLogsRepairInSessions =
+    (config : Config) (steps : List Step) (last tick : ℕ) (s : State) → IsLegal config steps → HaveCommands steps
+    → checkpoint_of (session_of config steps) ≤ last → number_of (session_of config steps) ≡ last + 1
+    → IsWhole s → Agrees s (below packet_of last (sent_in (session_of config steps)))
+    → Agrees (repaired s (fresh_of (logs_of_cut (session_of config steps) tick))) (sent_in (session_of config steps))
+
+-- the parts that repair by all logs of a journal leaves as the sender has them, and whole states
 pub record SessionsAreRepaired : Type 0 where
   pub programs : (channel : ℕ) → channel < 16 → RepairsInSessions (λ s. program_of s channel)
   pub controls : (channel control : ℕ) → channel < 16 → control < 128 → RepairsInSessions (λ s. control_of s channel control)
@@ -62,3 +82,5 @@ pub record SessionsAreRepaired : Type 0 where
   pub song : RepairsInSessions song_of
   pub sequencer : RepairsInSessions sequencer_of
   pub time_code : RepairsInSessions time_code_of
+  pub states : RepairsStatesInSessions
+  pub states_by_fresh : FreshLogsRepairInSessions

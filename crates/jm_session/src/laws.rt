@@ -3,12 +3,14 @@
 //! the clauses of `Book::steps` say. Each law is the contract of a function that does nothing.
 
 ghost use Rattle.jm_session.specs.Packets.{CheckpointsAreTold, PacketsAreRead};
+ghost use Rattle.jm_session.specs.InStep.{ReceiversStayInStep};
 ghost use Rattle.jm_session.specs.Premises.{SentStays, SessionsAreRepaired, SessionsMeetPremises};
 
 use jm_packet::laws::headers_read_back;
 use jm_receiver::laws::{
-    controls_are_repaired, notes_are_repaired, pressures_are_repaired, programs_are_repaired,
-    sequencer_is_repaired, song_is_repaired, time_code_is_repaired, wheels_are_repaired,
+    controls_are_repaired, fresh_logs_repair_states, notes_are_repaired, pressures_are_repaired,
+    programs_are_repaired, receivers_come_in_step, sequencer_is_repaired, song_is_repaired,
+    states_are_repaired, time_code_is_repaired, wheels_are_repaired,
 };
 use jm_section::laws::sections_read_back;
 
@@ -45,7 +47,10 @@ pub fn sent_stays()
 
 /// Where a state that has all packets before one is repaired by the journal of the packet that is cut next, and the
 /// session's checkpoint isn't later than the first packet that the state lacks, these parts of it are as all sent commands
-/// leave them: programs with their banks, controls, wheels, notes, pressures, the song, its position and the time code.
+/// leave them: programs with their banks, controls, wheels, notes, pressures, the song, its position and the time code. A
+/// whole state that agrees with the packets before one agrees with all sent commands then: all parts are equal, parameters by
+/// key, those of a channel aside in which more than 16 different ones were entered since the last Reset State command. Where
+/// the state lacks just the last packet the fresh logs alone do it.
 pub fn sessions_are_repaired()
     ensures { SessionsAreRepaired }
 {
@@ -57,4 +62,18 @@ pub fn sessions_are_repaired()
     song_is_repaired();
     sequencer_is_repaired();
     time_code_is_repaired();
+    states_are_repaired();
+    fresh_logs_repair_states();
+}
+
+/// A receiver of the session's stream that is in step stays so with the packet that is cut next. In step is one that is whole, and
+/// whose state agrees with all packets up to the last one that it took. Whichever packets it lost before this one, it takes
+/// this one under its number, and its state agrees with all commands that are sent then; and it is in step, whatever steps
+/// come. The session's checkpoint isn't later than the first packet that it lacks, and the packet is 1 to 32,767 ahead of the
+/// last one that it took, or below 65,536 as the first one.
+pub fn receivers_stay_in_step()
+    ensures { ReceiversStayInStep }
+{
+    receivers_come_in_step();
+    packets_are_read();
 }

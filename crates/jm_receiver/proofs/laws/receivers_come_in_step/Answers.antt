@@ -1,0 +1,5 @@
+use Rattle.jm_receiver.specs.InStep.{receivers_come_in_step as come_in_step}
+use Rattle.jm_receiver.proofs.laws.receivers_come_in_step.Goals as goal
+
+pub returns : goal.returns
+returns c = come_in_step
