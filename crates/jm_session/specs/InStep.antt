@@ -1,5 +1,5 @@
 -- A receiver of a session that is in step is in step again behind each packet that it takes.
-use Rattle.std.specs.Prelude.{ℕ, ◌≡◌, ◌≤◌, ◌<◌, ◌^◌, List, [], ◌∷◌, ◌++◌, Option, Some, Ok}
+use Rattle.std.specs.Prelude.{ℕ, ◌≡◌, ◌+◌, ◌≤◌, ◌<◌, ◌^◌, List, [], ◌∷◌, ◌++◌, Option, Some, Ok}
 use Rattle.jm_cmds.specs.History.{below}
 use Rattle.jm_cmds.specs.Sent.{packet_of}
 use Rattle.jm_receiver.specs.declared.receiver.Took.{Took}
@@ -24,13 +24,15 @@ pub record IsInStep (config : Config) (steps : List Step) (r : Received) : Type 
   pub whole : IsReceived r
   pub agrees : Agrees r.state (below packet_of (first_lacking r.last) (sent_in (session_of config steps)))
 
--- It takes the packet that is cut at this tick, under its own number, and is in step again, with all commands that were sent by then, and
--- stays so whatever steps come.
+-- It takes the packet that is cut at this tick, under its own number, which it tells, with how many packets it lost since the last one; and it is
+-- in step again, with all commands that were sent by then, and stays so whatever steps come.
 pub record ComesInStep (config : Config) (steps : List Step) (tick : ℕ) (r : Received) : Type 0 where
   pub after : Received
   pub took : Took
   pub taken : accepted r (octets_of_cut (session_of config steps) tick) ≡ Ok (after, took)
   pub number : after.last ≡ Some (number_of (session_of config steps))
+  pub told : took.number ≡ number_of (session_of config steps)
+  pub missed : (last : ℕ) → r.last ≡ Some last → last + 1 + took.gap ≡ number_of (session_of config steps)
   pub all_sent : Agrees after.state (sent_in (session_of config (steps ++ Cut tick ∷ [])))
   pub in_step : (more : List Step) → IsInStep config (steps ++ Cut tick ∷ more) after
 

@@ -100,6 +100,8 @@ module _ (config : Config) (steps : List Step) (tick : ℕ) (r : Received) (rece
         took = taken.took;
         taken = taken.taken;
         number = taken.number;
+        told = taken.told;
+        missed = taken.missed;
         all_sent = agrees;
         in_step = λ more. record {
           ssrc = taken.ssrc ∙ is.ssrc;

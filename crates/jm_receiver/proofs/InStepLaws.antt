@@ -1,0 +1,151 @@
+-- Receivers come in step again.
+use Rattle.std.proofs.Common.{◌≡◌, ℕ, ◌+◌, ◌-◌, ◌%◌, ◌^◌, ◌<◌, ◌≤◌, false, eqb, leb, List, [], ◌∷◌, ◌++◌, Option, Some, None, map, fold, refl, sym, ap, subst, ◌∙◌, inl, inr, arith}
+use Rattle.std.specs.Prelude.{Ok}
+use Rattle.std.proofs.lemmas.Bool.{cases_Bool, eqb-true, lt-leb}
+use Rattle.std.proofs.lemmas.Bool.Decides.{nat_tests}
+use Rattle.jm_cmds.specs.declared.commands.Command.{Command}
+use Rattle.jm_cmds.specs.declared.history.Sent.{Sent}
+use Rattle.jm_cmds.specs.History.{below, InOrder}
+use Rattle.jm_cmds.specs.Sent.{packet_of}
+use Rattle.jm_section.specs.declared.item.Item.{Item}
+use Rattle.jm_section.specs.declared.item.What.{What}
+use Rattle.jm_section.specs.declared.item.What.TheVariants.{Whole, Part, Passed}
+use Rattle.ch_sysex.specs.ChapterX.{sysex_logs}
+use Rattle.jm_state.specs.declared.state.State.{State}
+use Rattle.jm_state.specs.Apply.{applied}
+use Rattle.jm_state.specs.ReplayLaws.{state_behind}
+use Rattle.jm_reader.specs.Written.{AreCommands}
+use Rattle.jm_reader.specs.WrittenJournal.{journal_logs}
+use Rattle.jm_receiver.specs.declared.heard.Hearing.{Hearing}
+use Rattle.jm_receiver.specs.declared.place.Placed.{Placed}
+use Rattle.jm_receiver.specs.declared.place.Uses.{Uses}
+use Rattle.jm_receiver.specs.declared.place.Uses.TheVariants.{All}
+use Rattle.jm_receiver.specs.Receiver.{Received}
+use Rattle.jm_receiver.specs.Group.{all_groups, all_channels}
+use Rattle.jm_receiver.specs.Order.{in_order, repaired-fold}
+use Rattle.jm_receiver.specs.Repair.{repaired}
+use Rattle.jm_receiver.specs.Heard.{what_heard, sent_also, sent_all}
+use Rattle.jm_receiver.specs.Accept.{Contents, opened, placed, used_after, repaired_using, heard_in, took_at, accepted}
+use Rattle.jm_receiver.specs.Whole.{IsWhole, IsReceived, used_whole}
+use Rattle.jm_receiver.specs.Agreement.{Agrees, states_repaired}
+use Rattle.jm_receiver.specs.FreshLogs.{fresh_of}
+use Rattle.jm_receiver.specs.FreshAgreement.{states_by_fresh}
+use Rattle.jm_receiver.specs.KeptAgreement.{commands_agree}
+use Rattle.jm_receiver.specs.InStep.{first_lacking, CanTell, whole_of, commands_in, IsOfStream, IsTaken, ReceiversComeInStep}
+
+-- ## The commands of a section
+
+what_state : (h : Hearing) (what : What) (others : List Command) → fold applied (what_heard h what).state others ≡ fold applied h.state (whole_of what ++ others)
+what_state h (Whole command) others = refl
+what_state h (Part kind octets) others = refl
+what_state h (Passed octet) others = refl
+
+items_state : (h : Hearing) (items : List Item) → (fold sent_also h items).state ≡ fold applied h.state (commands_in items)
+items_state h [] = refl
+items_state h (item ∷ items) = items_state (sent_also h item) items ∙ what_state (record h { tick = (h.tick + item.delta) % 2 ^ 32 }) item.what (commands_in items)
+
+commands_state : (s : State) (own : List Sent) → fold applied s (map (λ one. one.command) own) ≡ state_behind s own
+commands_state s [] = refl
+commands_state s (one ∷ own) = commands_state (applied s one.command) own
+
+-- ## The logs that are used
+
+none_repaired : (s : State) → repaired s [] ≡ s
+unfolding in_order all_groups all_channels
+none_repaired s = repaired-fold s []
+
+-- Repair by the logs that are used behind so many lost packets.
+pub used_agree : (checkpoint next gap tick : ℕ) (sent : List Sent) (h : Hearing) → AreCommands sent → InOrder packet_of sent → sysex_logs checkpoint (below packet_of (next + gap) sent) ≤ 128 → checkpoint ≤ next →
+    IsWhole h.state → Agrees h.state (below packet_of next sent) → Agrees (repaired_using (used_after gap) (journal_logs checkpoint (next + gap) tick sent) h).state (below packet_of (next + gap) sent)
+used_agree checkpoint next gap tick sent h commands o messages early is agrees =
+    elim (cases_Bool (eqb gap 0)) [
+      | inl t ↦
+          let same : next ≡ next + gap = (let none = eqb-true gap 0 t in omega (arith, none)) in
+          rw t (subst (λ n. Agrees h.state (below packet_of n sent)) same agrees)
+      | inr f ↦ elim (cases_Bool (eqb gap 1)) [
+        | inl u ↦
+            let one : gap ≡ 1 = eqb-true gap 1 u in
+            let few : sysex_logs checkpoint (below packet_of (next + 1) sent) ≤ 128 = rw one at messages in
+            rw (f, u)
+            (subst (λ n. Agrees (repaired h.state (fresh_of (journal_logs checkpoint (next + n) tick sent))) (below packet_of (next + n) sent)) (sym one)
+            (states_by_fresh checkpoint next tick sent h.state commands o few early is agrees))
+        | inr g ↦ rw (f, g) (states_repaired checkpoint next (next + gap) tick sent h.state commands o messages early (omega arith) is agrees)
+      ]
+    ]
+
+-- ## The packet
+
+module _ (r : Received) (octets : List ℕ) (c : Contents) (packet : ℕ) (before own : List Sent) (read : opened r.ssrc octets ≡ Ok c) (says : commands_in c.items ≡ map (λ one. one.command) own) (is : IsReceived r) where
+  abbrev begins : Hearing
+  begins = record { state = r.state; tick = c.tick; heard = [] }
+
+  heard_agrees : (uses : Uses) → Agrees (repaired_using uses c.logs begins).state before → Agrees (heard_in r c uses).state (before ++ own)
+  unfolding sent_all
+  heard_agrees uses agrees =
+      let h = repaired_using uses c.logs begins in
+      let same : (fold sent_also h c.items).state ≡ state_behind h.state own = items_state h c.items ∙ ap (fold applied h.state) says ∙ commands_state h.state own in
+      subst (λ (s : State). Agrees s (before ++ own)) (sym same) (commands_agree before own h.state (used_whole uses c.logs begins is.whole) agrees)
+
+  placed_taken : (place : Placed) → placed r.last c.number ≡ Ok place → place.number ≡ packet → ((last : ℕ) → r.last ≡ Some last → last + 1 + place.gap ≡ packet) →
+      Agrees (repaired_using place.uses c.logs begins).state before → IsTaken r octets packet before own
+  unfolding accepted
+  placed_taken place found number missed agrees = record {
+    after = (took_at place (heard_in r c place.uses) r).0;
+    took = (took_at place (heard_in r c place.uses) r).1;
+    taken = rw (read, found) refl;
+    ssrc = refl;
+    number = ap (λ (n : ℕ). Some n) number;
+    told = number;
+    missed = missed;
+    in_step = heard_agrees place.uses agrees;
+  }
+
+-- the place of a packet that is so many ahead
+ahead_placed : (last gap : ℕ) → gap < 32767 → last + 1 + gap < 2 ^ 64 → placed (Some last) ((last + 1 + gap) % 65536) ≡ Ok (record { number = last + 1 + gap; gap = gap; uses = used_after gap })
+ahead_placed last gap l m =
+    let ahead : ((last + 1 + gap) % 65536 + 65536 - last % 65536) % 65536 ≡ gap + 1 = omega (arith, l) in
+    let some : eqb (gap + 1) 0 ≡ false = grind (arith, nat_tests) in
+    let near : leb 32768 (gap + 1) ≡ false = lt-leb 32768 (gap + 1) (omega (arith, l)) in
+    let number : (last + (gap + 1)) % 2 ^ 64 ≡ last + 1 + gap = omega (arith, m) in
+    let lost : gap + 1 - 1 ≡ gap = omega arith in
+    rw (ahead, some, near, number, lost) refl
+
+-- the first packet
+first_taken : (r : Received) (octets : List ℕ) (c : Contents) (checkpoint packet tick : ℕ) (sent own : List Sent) → opened r.ssrc octets ≡ Ok c → IsOfStream checkpoint packet tick sent own c →
+    AreCommands sent → InOrder packet_of sent → sysex_logs checkpoint (below packet_of packet sent) ≤ 128 → checkpoint ≤ 0 → packet < 65536 → r.last ≡ None →
+    IsReceived r → Agrees r.state (below packet_of 0 sent) → IsTaken r octets packet (below packet_of packet sent) own
+first_taken r octets c checkpoint packet tick sent own read stands commands o messages early small none is agrees =
+    let number : c.number ≡ packet = stands.number ∙ omega (arith, small) in
+    placed_taken r octets c packet (below packet_of packet sent) own read stands.commands is (record { number = c.number; gap = 0; uses = All }) (rw none refl) number
+    (λ last some. absurd (let no : ◌≡◌ {A = Option ℕ} None (Some last) = sym none ∙ some in cc))
+    (elim (cases_Bool (eqb packet 0)) [
+      | inl t ↦
+          let zero_here : packet ≡ 0 = eqb-true packet 0 t in
+          rw (stands.first zero_here, none_repaired r.state) (subst (λ n. Agrees r.state (below packet_of n sent)) (sym zero_here) agrees)
+      | inr f ↦
+          let some : 1 ≤ packet = grind (arith, nat_tests, f) in
+          rw (stands.later some) (states_repaired checkpoint 0 packet tick sent r.state commands o messages early (omega arith) is.whole agrees)
+    ])
+
+-- a later one, so many packets behind the first one that is lacked
+later_taken : (r : Received) (octets : List ℕ) (c : Contents) (checkpoint last gap tick : ℕ) (sent own : List Sent) → opened r.ssrc octets ≡ Ok c → IsOfStream checkpoint (last + 1 + gap) tick sent own c →
+    AreCommands sent → InOrder packet_of sent → sysex_logs checkpoint (below packet_of (last + 1 + gap) sent) ≤ 128 → checkpoint ≤ last + 1 → gap < 32767 → last + 1 + gap < 2 ^ 64 → r.last ≡ Some last →
+    IsReceived r → Agrees r.state (below packet_of (last + 1) sent) → IsTaken r octets (last + 1 + gap) (below packet_of (last + 1 + gap) sent) own
+later_taken r octets c checkpoint last gap tick sent own read stands commands o messages early near small some is agrees =
+    let packet = last + 1 + gap in
+    placed_taken r octets c packet (below packet_of packet sent) own read stands.commands is (record { number = packet; gap = gap; uses = used_after gap })
+    (rw (some, stands.number) (ahead_placed last gap near small)) refl
+    (λ other e. let same : last ≡ other = (let both : ◌≡◌ {A = Option ℕ} (Some last) (Some other) = sym some ∙ e in cc) in omega (arith, same))
+    (rw (stands.later (omega arith)) (used_agree checkpoint (last + 1) gap tick sent (begins r octets c packet (below packet_of packet sent) own read stands.commands is) commands o messages early is.whole agrees))
+
+pub receivers_come_in_step : ReceiversComeInStep
+receivers_come_in_step r octets c checkpoint packet tick sent own read stands commands o messages early tells is agrees = by_last r.last refl early tells agrees
+  where
+    by_last : (last : Option ℕ) → r.last ≡ last → checkpoint ≤ first_lacking last → CanTell last packet → Agrees r.state (below packet_of (first_lacking last) sent) → IsTaken r octets packet (below packet_of packet sent) own
+    by_last None none early tells agrees = first_taken r octets c checkpoint packet tick sent own read stands commands o messages early tells none is agrees
+    by_last (Some last) some early tells agrees =
+        let gap = packet - (last + 1) in
+        let same : last + 1 + gap ≡ packet = (let l = tells.later in omega (arith, l)) in
+        subst (λ n. IsTaken r octets n (below packet_of n sent) own) same
+        (later_taken r octets c checkpoint last gap tick sent own read (subst (λ n. IsOfStream checkpoint n tick sent own c) (sym same) stands) commands o
+        (subst (λ n. sysex_logs checkpoint (below packet_of n sent) ≤ 128) (sym same) messages) early (let l = tells.later in let n = tells.near in omega (arith, l, n)) (let m = tells.small in omega (arith, same, m)) some is agrees)
