@@ -1,9 +1,8 @@
 -- A receiver that is in step with its stream, and takes a further packet of it, is in step again.
-use Rattle.std.proofs.Common.{◌≡◌, ℕ, ◌+◌, ◌-◌, ◌%◌, ◌^◌, ◌<◌, ◌≤◌, Bool, true, false, ◌||◌, eqb, leb, List, [], ◌∷◌, ◌++◌, Option, Some, None, map, fold, refl, sym, ap, subst, ◌∙◌, inl, inr, arith}
-use Rattle.std.specs.Prelude.{Result, Ok, Err}
+use Rattle.std.proofs.Common.{◌≡◌, ℕ, ◌+◌, ◌-◌, ◌%◌, ◌^◌, ◌<◌, ◌≤◌, false, eqb, leb, List, [], ◌∷◌, ◌++◌, Option, Some, None, map, fold, refl, sym, ap, subst, ◌∙◌, inl, inr, arith}
+use Rattle.std.specs.Prelude.{Ok}
 use Rattle.std.proofs.lemmas.Bool.{cases_Bool, eqb-true, lt-leb}
 use Rattle.std.proofs.lemmas.Bool.Decides.{nat_tests}
-use Rattle.jm_wire.specs.Readers.{◌>>=◌}
 use Rattle.jm_cmds.specs.declared.commands.Command.{Command}
 use Rattle.jm_cmds.specs.declared.history.Sent.{Sent}
 use Rattle.jm_cmds.specs.History.{below, InOrder}
@@ -15,21 +14,19 @@ use Rattle.ch_sysex.specs.ChapterX.{sysex_logs}
 use Rattle.jm_state.specs.declared.state.State.{State}
 use Rattle.jm_state.specs.Apply.{applied}
 use Rattle.jm_state.specs.ReplayLaws.{state_behind}
-use Rattle.jm_reader.specs.declared.logs.Log.{Log}
 use Rattle.jm_reader.specs.Written.{AreCommands}
 use Rattle.jm_reader.specs.WrittenJournal.{journal_logs}
 use Rattle.jm_receiver.specs.declared.heard.Hearing.{Hearing}
-use Rattle.jm_receiver.specs.declared.opening.AcceptFault.{AcceptFault}
 use Rattle.jm_receiver.specs.declared.place.Placed.{Placed}
 use Rattle.jm_receiver.specs.declared.place.Uses.{Uses}
-use Rattle.jm_receiver.specs.declared.place.Uses.TheVariants.{Nothing, Fresh, All}
+use Rattle.jm_receiver.specs.declared.place.Uses.TheVariants.{All}
 use Rattle.jm_receiver.specs.declared.receiver.Took.{Took}
 use Rattle.jm_receiver.specs.Receiver.{Received}
 use Rattle.jm_receiver.specs.Group.{all_groups, all_channels}
 use Rattle.jm_receiver.specs.Order.{in_order, repaired-fold}
 use Rattle.jm_receiver.specs.Repair.{repaired}
 use Rattle.jm_receiver.specs.Heard.{what_heard, sent_also, sent_all}
-use Rattle.jm_receiver.specs.Accept.{Contents, opened, packets_ahead, placed, used_after, repaired_using, heard_in, took_at, accepted}
+use Rattle.jm_receiver.specs.Accept.{Contents, opened, placed, used_after, repaired_using, heard_in, took_at, accepted}
 use Rattle.jm_receiver.specs.Whole.{IsWhole, IsReceived, used_whole}
 use Rattle.jm_receiver.specs.Agreement.{Agrees, states_repaired}
 use Rattle.jm_receiver.specs.FreshLogs.{fresh_of}
@@ -96,7 +93,7 @@ what_state h (Whole command) others = refl
 what_state h (Part kind octets) others = refl
 what_state h (Passed octet) others = refl
 
-items_state : (h : Hearing) (items : List Item) → (fold sent_also h items).state ≡ fold applied h.state (commands_in items)
+pub items_state : (h : Hearing) (items : List Item) → (fold sent_also h items).state ≡ fold applied h.state (commands_in items)
 items_state h [] = refl
 items_state h (item ∷ items) = items_state (sent_also h item) items ∙ what_state (record h { tick = (h.tick + item.delta) % 2 ^ 32 }) item.what (commands_in items)
 
@@ -106,7 +103,7 @@ commands_state s (one ∷ own) = commands_state (applied s one.command) own
 
 -- ## The logs that are used
 
-none_repaired : (s : State) → repaired s [] ≡ s
+pub none_repaired : (s : State) → repaired s [] ≡ s
 unfolding in_order all_groups all_channels
 none_repaired s = repaired-fold s []
 

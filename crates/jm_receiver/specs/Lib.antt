@@ -37,3 +37,5 @@ pub mod Agreement
 pub mod KeptAgreement
 pub mod FreshAgreement
 pub mod InStep
+pub mod Needless
+pub mod Unfresh
