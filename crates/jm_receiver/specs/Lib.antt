@@ -39,3 +39,8 @@ pub mod FreshAgreement
 pub mod InStep
 pub mod Needless
 pub mod Unfresh
+pub mod Follows
+pub mod Listened
+pub mod HeardLaw
+pub mod BankPlaces
+pub mod ProgramHeard

@@ -11,6 +11,7 @@ ghost use Rattle.jm_receiver.specs.FreshAgreement.{FreshLogsRepairStates, InStep
 ghost use Rattle.jm_receiver.specs.InStep.{ReceiversComeInStep};
 ghost use Rattle.jm_receiver.specs.Needless.{NothingNeedlessIsHeard};
 ghost use Rattle.jm_receiver.specs.Unfresh.{NothingNeedlessBehindAnEmptyPacket};
+ghost use Rattle.jm_receiver.specs.HeardLaw.{MostPartsAreHeard};
 
 /// The program of each channel is repaired, with the bank that it was chosen with.
 #[tactic(auto, using(crate::specs::ProgramLaw::program_repaired))]
@@ -150,4 +151,11 @@ pub fn nothing_needless_is_heard()
 /// whatever older ones it has.
 pub fn nothing_needless_behind_an_empty_packet()
     ensures { NothingNeedlessBehindAnEmptyPacket }
+{}
+
+/// The commands that repair hands on, each applied in order to the old state, leave it with the song, the number of messages, the controls
+/// but 0 and 32, the wheels, the sounding notes with their velocities and the pressures of the repaired state. So it is for every
+/// state and all logs, of which the messages have at most 254 data octets.
+pub fn most_parts_are_heard()
+    ensures { MostPartsAreHeard }
 {}
