@@ -40,7 +40,7 @@ what_state h (Whole command) others = refl
 what_state h (Part kind octets) others = refl
 what_state h (Passed octet) others = refl
 
-items_state : (h : Hearing) (items : List Item) → (fold sent_also h items).state ≡ fold applied h.state (commands_in items)
+pub items_state : (h : Hearing) (items : List Item) → (fold sent_also h items).state ≡ fold applied h.state (commands_in items)
 items_state h [] = refl
 items_state h (item ∷ items) = items_state (sent_also h item) items ∙ what_state (record h { tick = (h.tick + item.delta) % 2 ^ 32 }) item.what (commands_in items)
 
@@ -50,7 +50,7 @@ commands_state s (one ∷ own) = commands_state (applied s one.command) own
 
 -- ## The logs that are used
 
-none_repaired : (s : State) → repaired s [] ≡ s
+pub none_repaired : (s : State) → repaired s [] ≡ s
 unfolding in_order all_groups all_channels
 none_repaired s = repaired-fold s []
 

@@ -1,5 +1,5 @@
 -- The law of repair for whole states.
-use Rattle.std.proofs.Common.{◌≡◌, ℕ, ◌<◌, ◌≤◌, Bool, true, false, ◌||◌, List, [], ◌∷◌, Option, None, length, refl, sym, ap, ◌∙◌, inl, inr, arith}
+use Rattle.std.proofs.Common.{◌≡◌, ℕ, ◌<◌, ◌≤◌, Bool, true, false, ◌||◌, List, [], ◌∷◌, None, length, refl, sym, ap, ◌∙◌, inl, inr, arith}
 use Rattle.std.specs.Prelude.{nat_lt}
 use Rattle.std.specs.List.{list_any, AllByRecursion}
 use Rattle.std.proofs.lemmas.Bool.{cases_Bool, ltb-false, le-ltb}
@@ -16,7 +16,7 @@ use Rattle.jm_state.specs.declared.entered.Halves.{Halves}
 use Rattle.jm_state.specs.declared.state.State.{State}
 use Rattle.jm_state.specs.Entered.{no_halves, halves_in}
 use Rattle.jm_state.specs.KeptLaws.{no_state_is}
-use Rattle.jm_state.specs.Parts.{no_state, toggles_of, selection_of, entered_of, param_of}
+use Rattle.jm_state.specs.Parts.{no_state, entered_of, param_of}
 use Rattle.jm_state.specs.ReplayLaws.{state_behind, behind_is}
 use Rattle.jm_state.specs.SettingLaws.{Touched, nothing, SameBut}
 use Rattle.jm_state.specs.Says.{said}

@@ -314,7 +314,7 @@ said_so channel control (commands.Control at number value) = over_none (own chan
 said_so channel control command = refl
 
 -- The logs of a journal say of a control what the commands from the checkpoint on say.
-control_heard : (channel control : ℕ) → channel < 16 → control < 128 → (checkpoint packet tick : ℕ) (sent : List Sent) → InOrder packet_of sent →
+pub control_heard : (channel control : ℕ) → channel < 16 → control < 128 → (checkpoint packet tick : ℕ) (sent : List Sent) → InOrder packet_of sent →
     journal_says (control_log_says channel control) channel checkpoint packet tick sent ≡ final (place_says (control_says channel control)) (seen_since checkpoint packet sent)
 unfolding all_groups
 control_heard channel control l m checkpoint packet tick sent o =

@@ -166,13 +166,13 @@ filter-filter_map {X = X} {Y = Y} p q f h (x ∷ xs) = by_value (f x) refl (h x)
     by_value (Some y) e own true t ih = let here : q y ≡ true = own.0 ∙ t in rw (e, here) (ap (λ (l : List Y). y ∷ l) ih)
     by_value (Some y) e own false t ih = let here : q y ≡ false = own.0 ∙ t in rw here ih
 
-all_logged_fresh : (fresh : Bool) (whats : List LogKind) → AreAll fresh (all_logged fresh whats)
+pub all_logged_fresh : (fresh : Bool) (whats : List LogKind) → AreAll fresh (all_logged fresh whats)
 all_logged_fresh fresh [] = tt
 all_logged_fresh fresh (what ∷ whats) = (refl, all_logged_fresh fresh whats)
 
--- ## The chapters of a channel
+-- ## The chapters
 
-program_fresh : (channel : ℕ) (fresh : Bool) (bank : Bank) (event : ProgramEvent) → AreAll fresh (program_said channel fresh bank event)
+pub program_fresh : (channel : ℕ) (fresh : Bool) (bank : Bank) (event : ProgramEvent) → AreAll fresh (program_said channel fresh bank event)
 program_fresh channel fresh bank (programs.Chosen program) = (refl, tt)
 program_fresh channel fresh bank (programs.BankHigh value) = tt
 program_fresh channel fresh bank (programs.BankLow value) = tt
@@ -180,21 +180,35 @@ program_fresh channel fresh bank programs.SetBack = tt
 program_fresh channel fresh bank programs.Reset = tt
 program_fresh channel fresh bank programs.Other = tt
 
-wheel_fresh : (channel : ℕ) (fresh : Bool) (event : WheelEvent) → AreAll fresh (wheel_said channel fresh event)
+pub wheel_fresh : (channel : ℕ) (fresh : Bool) (event : WheelEvent) → AreAll fresh (wheel_said channel fresh event)
 wheel_fresh channel fresh (wheels.Moved first second) = (refl, tt)
 wheel_fresh channel fresh wheels.Cleared = tt
 wheel_fresh channel fresh wheels.Other = tt
 
-note_fresh : (channel : ℕ) (fresh soon : Bool) (event : NoteEvent) → AreAll fresh (struck_log channel fresh soon event)
+pub note_fresh : (channel : ℕ) (fresh soon : Bool) (event : NoteEvent) → AreAll fresh (struck_log channel fresh soon event)
 note_fresh channel fresh soon (notes.Struck note velocity) = (refl, tt)
 note_fresh channel fresh soon (notes.Released note velocity) = tt
 note_fresh channel fresh soon notes.Cleared = tt
 note_fresh channel fresh soon notes.Other = tt
 
-pressure_fresh : (channel : ℕ) (fresh : Bool) (event : PressureEvent) → AreAll fresh (pressure_said channel fresh event)
+pub pressure_fresh : (channel : ℕ) (fresh : Bool) (event : PressureEvent) → AreAll fresh (pressure_said channel fresh event)
 pressure_fresh channel fresh (pressures.Pressed value) = (refl, tt)
 pressure_fresh channel fresh pressures.Cleared = tt
 pressure_fresh channel fresh pressures.Other = tt
+
+pub position_fresh : (fresh : Bool) (state : Option SequencerPart) → AreAll fresh (position_said fresh state)
+position_fresh fresh None = tt
+position_fresh fresh (Some state) = (refl, tt)
+
+pub code_fresh : (fresh : Bool) (state : Option TimePart) → AreAll fresh (code_said fresh state)
+code_fresh fresh None = tt
+code_fresh fresh (Some state) = (refl, tt)
+
+pub message_fresh : (fresh : Bool) (count : ℕ) (event : SysexEvent) (octets : List ℕ) → AreAll fresh (event_said fresh count event octets)
+message_fresh fresh count messages.Kept octets = (refl, tt)
+message_fresh fresh count messages.ResetMessage octets = (refl, tt)
+message_fresh fresh count messages.Reset octets = tt
+message_fresh fresh count messages.Other octets = tt
 
 -- the groups of which the fresh logs are just those
 abbrev pub is_exact : Group → Bool
@@ -307,10 +321,6 @@ module _ (checkpoint last : ℕ) (sent : List Sent) (l : checkpoint ≤ last) wh
   unfolding v_said
   v_fresh = mapped_fresh Sensing (λ place. let log : Log = record { fresh = is_fresh (last + 1) place; what = kinds.Sensing (item_count Sensing seen) } in log) (λ x. refl)
 
-  position_fresh : (fresh : Bool) (state : Option SequencerPart) → AreAll fresh (position_said fresh state)
-  position_fresh fresh None = tt
-  position_fresh fresh (Some state) = (refl, tt)
-
   q_fresh : fresh_of (q_said checkpoint (last + 1) sent) ≡ q_said last (last + 1) sent
   unfolding q_said
   q_fresh =
@@ -318,22 +328,12 @@ module _ (checkpoint last : ℕ) (sent : List Sent) (l : checkpoint ≤ last) wh
       fresh_flat (is_fresh (last + 1)) list (λ x. position_fresh (is_fresh (last + 1) x) (sequencer_after seen)) (item_coded Sequence checkpoint (last + 1) sent)
       ∙ ap (flat_map list) (item_fresh Sequence)
 
-  code_fresh : (fresh : Bool) (state : Option TimePart) → AreAll fresh (code_said fresh state)
-  code_fresh fresh None = tt
-  code_fresh fresh (Some state) = (refl, tt)
-
   f_fresh : fresh_of (f_said checkpoint (last + 1) sent) ≡ f_said last (last + 1) sent
   unfolding f_said
   f_fresh =
       let list : Sent → List Log = λ place. code_said (is_fresh (last + 1) place) (time_code_after seen) in
       fresh_flat (is_fresh (last + 1)) list (λ x. code_fresh (is_fresh (last + 1) x) (time_code_after seen)) (item_coded Frames checkpoint (last + 1) sent)
       ∙ ap (flat_map list) (item_fresh Frames)
-
-  message_fresh : (fresh : Bool) (count : ℕ) (event : SysexEvent) (octets : List ℕ) → AreAll fresh (event_said fresh count event octets)
-  message_fresh fresh count messages.Kept octets = (refl, tt)
-  message_fresh fresh count messages.ResetMessage octets = (refl, tt)
-  message_fresh fresh count messages.Reset octets = tt
-  message_fresh fresh count messages.Other octets = tt
 
   x_fresh : fresh_of (x_said checkpoint (last + 1) sent) ≡ x_said last (last + 1) sent
   unfolding x_said

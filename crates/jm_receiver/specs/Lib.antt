@@ -37,3 +37,10 @@ pub mod Agreement
 pub mod KeptAgreement
 pub mod FreshAgreement
 pub mod InStep
+pub mod Needless
+pub mod Unfresh
+pub mod Follows
+pub mod Listened
+pub mod HeardLaw
+pub mod BankPlaces
+pub mod ProgramHeard

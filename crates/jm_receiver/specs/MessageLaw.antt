@@ -180,7 +180,7 @@ number_behind s (x ∷ xs) = number_behind (applied s x.command) xs ∙ ap (λ (
 
 -- ## Places, each with the number of kept messages before it
 
-since-scanned : {S X : Type 0} (step : S → X → S) (at : X → ℕ) (from : ℕ) (s : S) (xs : List X) → InOrder at xs →
+pub since-scanned : {S X : Type 0} (step : S → X → S) (at : X → ℕ) (from : ℕ) (s : S) (xs : List X) → InOrder at xs →
     since (λ p. at p.1) from (scanned step s xs) ≡ scanned step (fold step s (below at from xs)) (since at from xs)
 since-scanned step at from s [] o = refl
 since-scanned step at from s (x ∷ xs) o =

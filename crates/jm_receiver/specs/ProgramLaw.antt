@@ -100,9 +100,9 @@ program_is channel l = record {
 -- ## The bank
 
 -- Controls 0 and 32 of the state are the bank that the session told
-record IsBank (channel : ℕ) (s : State) (bank : Bank) : Type 0 where
-  high : control_of s channel 0 ≡ bank.high
-  low : control_of s channel 32 ≡ bank.low
+pub record IsBank (channel : ℕ) (s : State) (bank : Bank) : Type 0 where
+  pub high : control_of s channel 0 ≡ bank.high
+  pub low : control_of s channel 32 ≡ bank.low
 
 no_pair : (number k : ℕ) → ltb k 124 ≡ true → eqb (pair_of number) k ≡ false
 no_pair number k h =
@@ -121,7 +121,7 @@ no_pair number k h =
     apart n k h l = let under : k < 124 = ltb-true k 124 h in ne_eqb n k (λ e. omega (arith, e, l, under))
 
 -- another controller says nothing of a kept one below the modes
-not_told : (kind other : ControlKind) (number k value : ℕ) → ltb k 124 ≡ true → is_dropped other ≡ false → eqb number k ≡ false → controller_says kind other number k value ≡ None
+pub not_told : (kind other : ControlKind) (number k value : ℕ) → ltb k 124 ≡ true → is_dropped other ≡ false → eqb number k ≡ false → controller_says kind other number k value ≡ None
 not_told (numbers.Mode n) other number k value h d f = rw (f, no_pair number k h) refl
 not_told (numbers.Kept n) other number k value h d f = rw f refl
 not_told numbers.Pedal other number k value h d f = rw f refl
@@ -165,33 +165,33 @@ low_by : (b : Bool) (bank : Bank) → said (ended b) bank.low ≡ (bank_after ba
 low_by true bank = refl
 low_by false bank = refl
 
-high_after : (channel : ℕ) (command : Command) (bank : Bank) → said (control_says channel 0 command) bank.high ≡ (bank_after bank (program_event channel command)).high
+pub high_after : (channel : ℕ) (command : Command) (bank : Bank) → said (control_says channel 0 command) bank.high ≡ (bank_after bank (program_event channel command)).high
 high_after channel (commands.Control at number value) bank = elim (cases_Bool (eqb at channel)) [ inl t ↦ rw t (kept_high number value bank) | inr f ↦ rw f refl ]
 high_after channel (commands.Program at program) bank = elim (cases_Bool (eqb at channel)) [ inl t ↦ rw t refl | inr f ↦ rw f refl ]
 high_after channel command bank = high_by (is_reset command) bank
 
-low_after : (channel : ℕ) (command : Command) (bank : Bank) → said (control_says channel 32 command) bank.low ≡ (bank_after bank (program_event channel command)).low
+pub low_after : (channel : ℕ) (command : Command) (bank : Bank) → said (control_says channel 32 command) bank.low ≡ (bank_after bank (program_event channel command)).low
 low_after channel (commands.Control at number value) bank = elim (cases_Bool (eqb at channel)) [ inl t ↦ rw t (kept_low number value bank) | inr f ↦ rw f refl ]
 low_after channel (commands.Program at program) bank = elim (cases_Bool (eqb at channel)) [ inl t ↦ rw t refl | inr f ↦ rw f refl ]
 low_after channel command bank = low_by (is_reset command) bank
 
-bank_along : (channel : ℕ) (s : State) (bank : Bank) (x : Sent) → channel < 16 → IsState s → IsBank channel s bank → IsBank channel (applied s x.command) (bank_step channel bank x)
+pub bank_along : (channel : ℕ) (s : State) (bank : Bank) (x : Sent) → channel < 16 → IsState s → IsBank channel s bank → IsBank channel (applied s x.command) (bank_step channel bank x)
 bank_along channel s bank x l is b = record {
   high = (by_part s x.command is).control channel 0 l (omega arith) ∙ ap (said (control_says channel 0 x.command)) b.high ∙ high_after channel x.command bank;
   low = (by_part s x.command is).control channel 32 l (omega arith) ∙ ap (said (control_says channel 32 x.command)) b.low ∙ low_after channel x.command bank;
 }
 
-no_bank_is : (channel : ℕ) → channel < 16 → IsBank channel no_state no_bank
+pub no_bank_is : (channel : ℕ) → channel < 16 → IsBank channel no_state no_bank
 no_bank_is channel l = record {
   high = ap (λ c. control_at c 0) (no_channel_at channel l) ∙ ap (control_by (control_kind 0)) (no_value 0 (omega arith)) ∙ control_none (control_kind 0);
   low = ap (λ c. control_at c 32) (no_channel_at channel l) ∙ ap (control_by (control_kind 32)) (no_value 32 (omega arith)) ∙ control_none (control_kind 32);
 }
 
 -- what a place says of the program, with the bank before it
-abbrev banked_says : (channel : ℕ) → Banked → Option (Option ProgramPart)
+abbrev pub banked_says : (channel : ℕ) → Banked → Option (Option ProgramPart)
 banked_says channel place = program_says channel place.0.high place.0.low place.1.command
 
-program_behind : (channel : ℕ) (s : State) (bank : Bank) (xs : List Sent) → channel < 16 → IsState s → IsBank channel s bank → program_of (state_behind s xs) channel ≡ said (final (banked_says channel) (scanned (bank_step channel) bank xs)) (program_of s channel)
+pub program_behind : (channel : ℕ) (s : State) (bank : Bank) (xs : List Sent) → channel < 16 → IsState s → IsBank channel s bank → program_of (state_behind s xs) channel ≡ said (final (banked_says channel) (scanned (bank_step channel) bank xs)) (program_of s channel)
 program_behind channel s bank [] l is b = refl
 program_behind channel s bank (x ∷ xs) l is b =
     let later = final (banked_says channel) (scanned (bank_step channel) (bank_step channel bank x) xs) in
@@ -339,7 +339,7 @@ below-scanned step at packet s (x ∷ xs) o =
     ]
 
 -- The logs of a journal say of the program what the commands from the checkpoint on say, each with the bank before it.
-program_heard : (channel : ℕ) → channel < 16 → (checkpoint packet tick : ℕ) (sent : List Sent) → InOrder packet_of sent →
+pub program_heard : (channel : ℕ) → channel < 16 → (checkpoint packet tick : ℕ) (sent : List Sent) → InOrder packet_of sent →
     journal_says (program_log_says channel) channel checkpoint packet tick sent ≡ final (banked_says channel) (since banked_packet checkpoint (scanned (bank_step channel) no_bank (below packet_of packet sent)))
 unfolding all_groups
 program_heard channel l checkpoint packet tick sent o =

@@ -2,7 +2,6 @@
 -- Control 121 or the last reset, and their log has the count.
 use Rattle.std.proofs.Common.{◌≡◌, ℕ, ◌%◌, ◌<◌, ◌≤◌, Bool, true, false, cond, not, ◌&&◌, ◌||◌, eqb, ltb, leb, List, [], ◌∷◌, ◌++◌, Option, Some, None, fold, refl, sym, ap, ◌∙◌, subst, ◌⊎◌, inl, inr, arith}
 use Rattle.std.specs.List.{flat_map, list_any}
-use Rattle.std.proofs.Math.Bool.{beq}
 use Rattle.std.proofs.lemmas.Bool.{cases_Bool, eq-eqb, eqb-true, or_cases, and_parts}
 use Rattle.std.proofs.lemmas.Bool.Decides.{nat_tests}
 use Rattle.std.proofs.lemmas.List.Sums.{fold-append}
@@ -17,7 +16,7 @@ use Rattle.jm_cmds.specs.declared.pedal.PedalEvent.TheVariants.{Moved, Released,
 use Rattle.jm_cmds.specs.Control.{control_kind, clears_controllers, is_entry, is_counted, is_reset, is_reset_message}
 use Rattle.jm_cmds.specs.History.{below, since, InOrder}
 use Rattle.jm_cmds.specs.HistoryLaws.{InOrder-filter, filter-swap}
-use Rattle.jm_cmds.specs.Pedal.{control_pedal, pedal_event, pedal_step, pedal_along, pedal_after, no_pedal, IsPedal}
+use Rattle.jm_cmds.specs.Pedal.{control_pedal, pedal_event, pedal_step, pedal_along, pedal_after, no_pedal}
 use Rattle.jm_cmds.specs.Sent.{packet_of, is_fresh}
 use Rattle.ch_control.specs.declared.events.ControlEvent.{ControlEvent}
 use Rattle.ch_control.specs.declared.events.ControlEvent.TheVariants.{Set, Dropped, Other}

@@ -9,6 +9,9 @@ ghost use Rattle.jm_receiver.specs.Agreement.{StatesAreRepaired};
 ghost use Rattle.jm_receiver.specs.KeptAgreement.{InStepAgain};
 ghost use Rattle.jm_receiver.specs.FreshAgreement.{FreshLogsRepairStates, InStepByFresh};
 ghost use Rattle.jm_receiver.specs.InStep.{ReceiversComeInStep};
+ghost use Rattle.jm_receiver.specs.Needless.{NothingNeedlessIsHeard};
+ghost use Rattle.jm_receiver.specs.Unfresh.{NothingNeedlessBehindAnEmptyPacket};
+ghost use Rattle.jm_receiver.specs.HeardLaw.{MostPartsAreHeard};
 
 /// The program of each channel is repaired, with the bank that it was chosen with.
 #[tactic(auto, using(crate::specs::ProgramLaw::program_repaired))]
@@ -135,4 +138,24 @@ pub fn fresh_logs_bring_in_step()
 /// first one is below 65,536; and the journal's checkpoint isn't later than the first packet that the receiver lacks.
 pub fn receivers_come_in_step()
     ensures { ReceiversComeInStep }
+{}
+
+/// Where no packet was missed before it, what is heard of a packet that is taken is just what its section holds: its whole commands, in
+/// order, each at the packet's timestamp plus the deltas up to it, modulo 2^32. The state is the old one behind them. So it is
+/// behind an earlier packet whatever the journal has, and for the first packet where its journal has no logs.
+pub fn nothing_needless_is_heard()
+    ensures { NothingNeedlessIsHeard }
+{}
+
+/// The same where just one packet was missed before it and no command was sent in that one: the journal has no fresh logs then,
+/// whatever older ones it has.
+pub fn nothing_needless_behind_an_empty_packet()
+    ensures { NothingNeedlessBehindAnEmptyPacket }
+{}
+
+/// The commands that repair hands on, each applied in order to the old state, leave it with the song, the number of messages, the controls
+/// but 0 and 32, the wheels, the sounding notes with their velocities and the pressures of the repaired state. So it is for every
+/// state and all logs, of which the messages have at most 254 data octets.
+pub fn most_parts_are_heard()
+    ensures { MostPartsAreHeard }
 {}
