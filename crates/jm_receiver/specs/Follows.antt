@@ -460,9 +460,9 @@ module _ (programs : ℕ → Bool) (controls : (channel number : ℕ) → Bool) 
   unfolding resets_handed_on
   cleared_follow logs h s f = resets_follow h s logs f
 
--- its message is within the bound of those that are counted, if the log is of one
+-- Its message is a Reset State command or within the bound of those that are counted, if the log is of one.
 abbrev pub is_kept_log : LogKind → Bool
-is_kept_log (kinds.Sysex count octets) = is_kept_message octets
+is_kept_log (kinds.Sysex count octets) = is_reset_message octets || is_kept_message octets
 is_kept_log log = true
 
 abbrev pub AreKept : List Log → Type 0
@@ -488,7 +488,9 @@ module _ (programs : ℕ → Bool) (controls : (channel number : ℕ) → Bool) 
   -- what counts is a message that is no reset
   counting_follows : (reset : Bool) (before : ℕ) (h : Hearing) (s : State) (log : LogKind) → is_kept_log log ≡ true → counts reset before log ≡ true → Follows programs controls h.state s →
       Follows programs controls (message_handed_on h log).state (with_sysex_count s ((s.sysex_count + 1) % 256))
-  counting_follows reset before h s (kinds.Sysex count octets) kept c f = message_follows h s octets (not_reset (is_reset_message octets) c) kept f
+  counting_follows reset before h s (kinds.Sysex count octets) kept c f =
+      let none : is_reset_message octets ≡ false = not_reset (is_reset_message octets) c in
+      message_follows h s octets none (rw none at kept) f
     where
       not_reset : (b : Bool) → (not b && (reset || is_ahead before count)) ≡ true → b ≡ false
       not_reset true e = absurd (let x : false ≡ true = e in cc)

@@ -26,7 +26,7 @@ unheard = record nothing { sequencer = true; time_code = true; program = all_pro
 
 -- The commands that repair hands on, each applied in order to the old state, leave it with the song, the number of messages, the controls
 -- but 0 and 32, the wheels, the sounding notes with their velocities and the pressures of the repaired state: whatever the logs are,
--- of which the messages have at most 254 data octets. It excludes that a log hands on nothing where it changes
+-- of which the messages that reset nothing have at most 254 data octets. It excludes that a log hands on nothing where it changes
 -- the listener, be it a reset, a count or a message.
 abbrev pub MostPartsAreHeard : Type 0
 MostPartsAreHeard = (s : State) (logs : List Log) (tick : ℕ) → IsState s → AreKept logs → SameBut unheard (repaired s logs) (listened s (handed_on_by logs s tick))

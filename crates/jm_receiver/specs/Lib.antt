@@ -44,3 +44,5 @@ pub mod Listened
 pub mod HeardLaw
 pub mod BankPlaces
 pub mod ProgramHeard
+pub mod BankHeard
+pub mod HeardStates

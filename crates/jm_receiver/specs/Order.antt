@@ -50,7 +50,7 @@ folds whole step list same s (x ∷ xs) =
     ∙ folds whole step list same (fold step s (list x)) xs
     ∙ sym (fold-append step s (list x) (flat_map list xs))
 
-group-fold : (logs : List Log) (channel : ℕ) (s : State) (group : Group) → group_repaired logs channel s group ≡ fold with_log s (of_group group channel logs)
+pub group-fold : (logs : List Log) (channel : ℕ) (s : State) (group : Group) → group_repaired logs channel s group ≡ fold with_log s (of_group group channel logs)
 unfolding group_repaired
 group-fold logs channel s group = of_group-fold group channel s logs
 
@@ -230,7 +230,7 @@ unfolding all_channels
 channel_in_16 channel l = grind (arith, nat_tests)
 
 module _ {V : Type 0} (channel : ℕ) (groups : Group → Bool) (part : State → Option V) (says : LogKind → Option (Option V)) (is_part : IsPart channel groups part says) where
-  session_left : (s : State) (logs : List Log) → part (session_done s logs) ≡ part (cleared logs s)
+  pub session_left : (s : State) (logs : List Log) → part (session_done s logs) ≡ part (cleared logs s)
   session_left s logs =
       fold_kept (λ t log. with_session_log t log.what) part (λ t log. is_part.session t log.what) (messages_repaired logs (cleared logs s)) logs
       ∙ fold_kept (with_message (has_reset logs) (cleared logs s).sysex_count) part counted (cleared logs s) logs
@@ -242,10 +242,10 @@ module _ {V : Type 0} (channel : ℕ) (groups : Group → Bool) (part : State �
             | inr n ↦ rw n refl
           ]
 
-  cleared_part : (s : State) (logs : List Log) → part (cleared logs s) ≡ said (ended (has_reset logs)) (part s)
+  pub cleared_part : (s : State) (logs : List Log) → part (cleared logs s) ≡ said (ended (has_reset logs)) (part s)
   cleared_part s logs = elim (cases_Bool (has_reset logs)) [ inl t ↦ rw t is_part.absent | inr f ↦ rw f refl ]
 
-  silent_elsewhere : (logs : List Log) (other : ℕ) → eqb channel other ≡ false → final (log_says says) (in_order other logs) ≡ None
+  pub silent_elsewhere : (logs : List Log) (other : ℕ) → eqb channel other ≡ false → final (log_says says) (in_order other logs) ≡ None
   unfolding in_order
   silent_elsewhere logs other apart =
       final-flat_map (log_says says) (λ group. of_group group other logs) all_groups

@@ -1,7 +1,7 @@
 -- What the journal's program and the bank with it are to a listener.
 use Rattle.std.proofs.Common.{◌≡◌, ◌⊎◌, ℕ, ◌+◌, ◌<◌, ◌≤◌, Bool, true, false, cond, ◌&&◌, ◌||◌, eqb, ltb, leb, List, [], ◌∷◌, ◌++◌, Option, Some, None, fold, refl, sym, ap, subst, ◌∙◌, inl, inr, arith}
 use Rattle.std.specs.List.{list_any, flat_map, filter, AllByRecursion}
-use Rattle.std.proofs.lemmas.Bool.{cases_Bool, eq-eqb, leb-true, le-leb}
+use Rattle.std.proofs.lemmas.Bool.{cases_Bool, eq-eqb, eqb-true, and_parts, leb-true, le-leb}
 use Rattle.std.proofs.lemmas.List.Sums.{fold-append}
 use Rattle.jm_cmds.specs.declared.commands.Command.{Command}
 use Rattle.jm_cmds.specs.declared.history.Sent.{Sent}
@@ -18,7 +18,7 @@ use Rattle.ch_sysex.specs.SysexEvent.{resets}
 use Rattle.jm_state.specs.declared.channel.ProgramPart.{ProgramPart}
 use Rattle.jm_state.specs.declared.state.State.{State}
 use Rattle.jm_state.specs.Apply.{applied, bank_by}
-use Rattle.jm_state.specs.Final.{final, speaks, final-append, latest-final}
+use Rattle.jm_state.specs.Final.{final, speaks, final-append, final-flat_map, latest-final, over_none}
 use Rattle.jm_state.specs.Kept.{IsState}
 use Rattle.jm_state.specs.KeptLaws.{no_state_is, state_after_is}
 use Rattle.jm_state.specs.Parts.{no_state, program_of, control_of}
@@ -28,19 +28,21 @@ use Rattle.jm_state.specs.ReplayLaws.{state_behind, behind_is, part_behind}
 use Rattle.jm_state.specs.Says.{said, ended, control_says}
 use Rattle.jm_reader.specs.declared.logs.Log.{Log}
 use Rattle.jm_reader.specs.declared.logs.LogKind.TheVariants as kinds
+use Rattle.jm_reader.specs.WrittenC.{c_said}
 use Rattle.jm_reader.specs.WrittenJournal.{journal_logs}
 use Rattle.jm_reader.specs.WrittenP.{Bank, p_said, program_said, bank_said, place_said}
+use Rattle.jm_receiver.specs.declared.group.Group.{Group}
+use Rattle.jm_receiver.specs.declared.group.Group.TheVariants.{Programs, Params, Controls, Wheels, Released, Struck, Pressures, Polys}
 use Rattle.jm_receiver.specs.Agreement.{Agrees}
 use Rattle.jm_receiver.specs.BankPlaces.{bank_at, is_set, program_bank, told_before, none_before, spoken_over, unspoken}
 use Rattle.jm_receiver.specs.ControlLaw.{control_is, control_log_says, control_groups, control_heard}
-use Rattle.jm_receiver.specs.Group.{all_groups}
+use Rattle.jm_receiver.specs.Group.{is_of, all_groups}
 use Rattle.jm_receiver.specs.HandedOn.{program_is as is_program_of, bank_is, value_or_zero}
 use Rattle.jm_receiver.specs.MessageLaw.{since-scanned, scanned-append}
-use Rattle.jm_receiver.specs.Order.{in_order, log_says, part_repaired}
+use Rattle.jm_receiver.specs.Order.{in_order, of_group, log_says, part_repaired, tag, rank, is_tagged, is_of-tag, concerns_tag, final-filter_none}
 use Rattle.jm_receiver.specs.ProgramLaw.{IsBank, banked_says, bank_along, no_bank_is, high_after, low_after, program_log_says, program_groups, program_is, program_heard, program_behind}
 use Rattle.jm_receiver.specs.Repair.{has_reset, cleared, repaired}
 use Rattle.jm_receiver.specs.Repairs.{groups_heard, below_next, journal_says, place_says}
-use Rattle.jm_receiver.specs.Resets.{reset_of_journal}
 
 -- ## One program
 
@@ -119,13 +121,48 @@ any_kept test p xs h = none (filter p xs) (AllByRecursion-filter (λ x. test x �
     none [] a = refl
     none (y ∷ ys) a = rw (a.0) (none ys a.1)
 
+pair_of : (a b : ℕ × ℕ) → ◌≡◌ {A = Option (ℕ × ℕ)} (Some a) (Some b) → a ≡ b
+pair_of a b e = cc
+
 -- ## A journal's program
 
-module _ (channel : ℕ) (l : channel < 16) (checkpoint next packet tick : ℕ) (sent : List Sent) (s : State) (o : InOrder packet_of sent) (early : checkpoint ≤ next) (late : next ≤ packet) (is : IsState s)
-    (agrees : Agrees s (below packet_of next sent)) (whole : Agrees (repaired s (journal_logs checkpoint packet tick sent)) (below packet_of packet sent)) where
-  abbrev logs : List Log
-  logs = journal_logs checkpoint packet tick sent
+-- Of programs and controls of a channel these logs are just those of a journal with this checkpoint, and they have a reset where one was
+-- sent from the checkpoint on.
+pub record HasOwn (channel checkpoint packet : ℕ) (sent : List Sent) (logs : List Log) : Type 0 where
+  pub programs : of_group Programs channel logs ≡ p_said channel checkpoint packet sent
+  pub controls : of_group Controls channel logs ≡ c_said channel checkpoint packet sent
+  pub reset : has_reset logs ≡ list_any resets (since packet_of checkpoint (below packet_of packet sent))
 
+control_rank : (group : Group) → control_groups group ≡ eqb (rank group) 2
+control_rank Programs = refl
+control_rank Params = refl
+control_rank Controls = refl
+control_rank Wheels = refl
+control_rank Released = refl
+control_rank Struck = refl
+control_rank Pressures = refl
+control_rank Polys = refl
+
+apart_tag : (group : Group) (channel : ℕ) (t : Option (Group × ℕ)) → control_groups group ≡ false → is_tagged group channel t ≡ true → concerns_tag control_groups channel t ≡ false
+apart_tag group channel None f h = refl
+apart_tag group channel (Some t) f h =
+    let both = and_parts (eqb (rank group) (rank t.0)) (eqb t.1 channel) h in
+    let other : control_groups t.0 ≡ false = control_rank t.0 ∙ ap (λ n. eqb n 2) (sym (eqb-true (rank group) (rank t.0) both.0)) ∙ sym (control_rank group) ∙ f in
+    rw other refl
+
+-- of a channel's logs those of controls alone speak of a control
+controls_alone : (channel number : ℕ) (logs : List Log) → channel < 16 → number < 128 → final (log_says (control_log_says channel number)) (in_order channel logs) ≡ final (log_says (control_log_says channel number)) (of_group Controls channel logs)
+unfolding in_order all_groups
+controls_alone channel number logs l m =
+    let says = log_says (control_log_says channel number) in
+    let own = final says (of_group Controls channel logs) in
+    let none : (group : Group) → control_groups group ≡ false → final says (of_group group channel logs) ≡ None = λ group f.
+    final-filter_none says (λ log. is_of group channel log.what) (λ log h. (control_is channel number l m).silent log.what (apart_tag group channel (tag log.what) f (sym (is_of-tag group channel log.what) ∙ h))) logs in
+    final-flat_map says (λ group. of_group group channel logs) all_groups
+    ∙ rw (none Programs refl, none Params refl, none Wheels refl, none Released refl, none Struck refl, none Pressures refl, none Polys refl) (over_none (over own None) ∙ over_none own)
+
+module _ (channel : ℕ) (l : channel < 16) (checkpoint next packet : ℕ) (sent : List Sent) (s : State) (logs : List Log) (o : InOrder packet_of sent) (early : checkpoint ≤ next) (late : next ≤ packet) (is : IsState s)
+    (own : HasOwn channel checkpoint packet sent logs) (agrees : Agrees s (below packet_of next sent)) (whole : Agrees (repaired s logs) (below packet_of packet sent)) where
   abbrev seen : List Sent
   seen = below packet_of packet sent
 
@@ -150,12 +187,12 @@ module _ (channel : ℕ) (l : channel < 16) (checkpoint next packet tick : ℕ) 
   unfolding all_groups
   program_told one =
       ap (final (banked_says channel)) (sym placed_recent)
-      ∙ sym (program_heard channel l checkpoint packet tick sent o)
-      ∙ rw (groups_heard channel program_groups (λ s. program_of s channel) (program_log_says channel) l (program_is channel l) checkpoint packet tick sent, one.same, eq-eqb channel channel refl) refl
+      ∙ sym (program_heard channel l checkpoint packet 0 sent o)
+      ∙ rw (groups_heard channel program_groups (λ s. program_of s channel) (program_log_says channel) l (program_is channel l) checkpoint packet 0 sent, one.same, eq-eqb channel channel refl) refl
 
   -- what the logs say of a control
   abbrev pub control_logs : ℕ → Option (Option ℕ)
-  control_logs number = final (log_says (control_log_says channel number)) (in_order channel logs)
+  control_logs number = final (log_says (control_log_says channel number)) (c_said channel checkpoint packet sent)
 
   bank_of_first : IsBank channel (state_behind no_state (below packet_of checkpoint seen)) first_bank
   bank_of_first = banks_behind channel no_state no_bank (below packet_of checkpoint seen) l no_state_is (no_bank_is channel l)
@@ -163,18 +200,23 @@ module _ (channel : ℕ) (l : channel < 16) (checkpoint next packet tick : ℕ) 
   cleared_control : (number : ℕ) → number < 128 → control_of (cleared logs s) channel number ≡ said (ended (has_reset logs)) (control_of s channel number)
   cleared_control number m = elim (cases_Bool (has_reset logs)) [ inl t ↦ rw t ((control_is channel number l m).absent) | inr f ↦ rw f refl ]
 
+  journal_controls : (number : ℕ) → number < 128 → final (log_says (control_log_says channel number)) (in_order channel (journal_logs checkpoint packet 0 sent)) ≡ control_logs number
+  unfolding all_groups
+  journal_controls number m = groups_heard channel control_groups (λ t. control_of t channel number) (control_log_says channel number) l (control_is channel number l m) checkpoint packet 0 sent
+
   -- where no log speaks of the control, it is behind all what it was
   left_control : (number : ℕ) (m : number < 128) → control_logs number ≡ None → control_of (state_behind no_state seen) channel number ≡ control_of (cleared logs s) channel number
   left_control number m none =
       sym (whole.control channel number l m refl)
       ∙ part_repaired channel control_groups (λ t. control_of t channel number) (control_log_says channel number) (control_is channel number l m) s logs l is
-      ∙ ap (λ (w : Option (Option ℕ)). said (over w (ended (has_reset logs))) (control_of s channel number)) none
+      ∙ ap (λ (w : Option (Option ℕ)). said (over w (ended (has_reset logs))) (control_of s channel number)) (controls_alone channel number logs l m ∙ ap (final (log_says (control_log_says channel number))) own.controls ∙ none)
       ∙ sym (cleared_control number m)
 
   -- and no value was said since the checkpoint
   unset_recent : (number : ℕ) → number < 128 → control_logs number ≡ None → is_set (final (place_says (control_says channel number)) recent) ≡ false
   unset_recent number m none =
-      ap is_set (sym (control_heard channel number l m checkpoint packet tick sent o) ∙ ap (λ (w : Option (Option ℕ)). over w (ended (has_reset logs))) none) ∙ unset_ended (has_reset logs)
+      let journal = journal_logs checkpoint packet 0 sent in
+      ap is_set (sym (control_heard channel number l m checkpoint packet 0 sent o) ∙ ap (λ (w : Option (Option ℕ)). over w (ended (has_reset journal))) (journal_controls number m ∙ none)) ∙ unset_ended (has_reset journal)
 
   -- the control behind all, by what was said since the checkpoint
   said_recent : (number : ℕ) (m : number < 128) → said (final (place_says (control_says channel number)) recent) (control_of (state_behind no_state (below packet_of checkpoint seen)) channel number) ≡ control_of (state_behind no_state seen) channel number
@@ -185,7 +227,7 @@ module _ (channel : ℕ) (l : channel < 16) (checkpoint next packet tick : ℕ) 
       ∙ sym (part_behind (λ t. control_of t channel number) (control_says channel number) last (state_behind no_state front) recent (behind_is no_state front no_state_is))
       ∙ ap (λ (t : State). control_of t channel number) (sym (fold-append (λ (t : State) (place : Sent). applied t place.command) no_state front recent) ∙ ap (state_behind no_state) (sym (in_two packet_of checkpoint seen ordered)))
 
-  abbrev told_bank : Bank
+  abbrev pub told_bank : Bank
   told_bank = bank_at channel first_bank recent
 
   pub high_told : (part : ProgramPart) → program_said_last ≡ Some (Some part) → control_logs 0 ≡ None → told_bank.high ≡ control_of (cleared logs s) channel 0
@@ -251,7 +293,25 @@ module _ (channel : ℕ) (l : channel < 16) (checkpoint next packet tick : ℕ) 
       elim (cases_Bool (has_reset logs)) [
         | inl t ↦ cleared_control 0 (omega arith) ∙ rw t refl
         | inr f ↦
-            let clear : list_any resets recent ≡ false = sym (reset_of_journal checkpoint packet tick sent o) ∙ f in
-            let own : is_program_of (program_of s channel) part.program None ≡ false = rw f at other in
-            cleared_control 0 (omega arith) ∙ rw f (before_none part h none clear own)
+            let clear : list_any resets recent ≡ false = sym own.reset ∙ f in
+            let held : is_program_of (program_of s channel) part.program None ≡ false = rw f at other in
+            cleared_control 0 (omega arith) ∙ rw f (before_none part h none clear held)
       ]
+
+  -- ## A program with its bank
+
+  high_some : (high low : Option ℕ) (b : ℕ × ℕ) → bank_by high low ≡ Some b → high ≡ Some b.0
+  high_some None low b h = absurd (let f : None ≡ Some b = h in cc)
+  high_some (Some high) None b h = let e : (high, 0) ≡ b = pair_of (high, 0) b h in ap (λ (p : ℕ × ℕ). Some p.0) e
+  high_some (Some high) (Some low) b h = let e : (high, low) ≡ b = pair_of (high, low) b h in ap (λ (p : ℕ × ℕ). Some p.0) e
+
+  low_some : (high low : Option ℕ) (b : ℕ × ℕ) → bank_by high low ≡ Some b → value_or_zero low ≡ b.1
+  low_some None low b h = absurd (let f : None ≡ Some b = h in cc)
+  low_some (Some high) None b h = let e : (high, 0) ≡ b = pair_of (high, 0) b h in ap (λ (p : ℕ × ℕ). p.1) e
+  low_some (Some high) (Some low) b h = let e : (high, low) ≡ b = pair_of (high, low) b h in ap (λ (p : ℕ × ℕ). p.1) e
+
+  pub high_held : (part : ProgramPart) → program_said_last ≡ Some (Some part) → control_logs 0 ≡ None → (b : ℕ × ℕ) → part.bank ≡ Some b → control_of (cleared logs s) channel 0 ≡ Some b.0
+  high_held part h none b e = sym (high_told part h none) ∙ high_some told_bank.high told_bank.low b (sym (program_bank channel first_bank recent part h) ∙ e)
+
+  pub low_held : (part : ProgramPart) → program_said_last ≡ Some (Some part) → control_logs 32 ≡ None → (b : ℕ × ℕ) → part.bank ≡ Some b → value_or_zero (control_of (cleared logs s) channel 32) ≡ b.1
+  low_held part h none b e = ap value_or_zero (sym (low_told part h none)) ∙ low_some told_bank.high told_bank.low b (sym (program_bank channel first_bank recent part h) ∙ e)

@@ -12,6 +12,7 @@ ghost use Rattle.jm_receiver.specs.InStep.{ReceiversComeInStep};
 ghost use Rattle.jm_receiver.specs.Needless.{NothingNeedlessIsHeard};
 ghost use Rattle.jm_receiver.specs.Unfresh.{NothingNeedlessBehindAnEmptyPacket};
 ghost use Rattle.jm_receiver.specs.HeardLaw.{MostPartsAreHeard};
+ghost use Rattle.jm_receiver.specs.HeardStates.{StatesAreHeard, StatesAreHeardByFresh};
 
 /// The program of each channel is repaired, with the bank that it was chosen with.
 #[tactic(auto, using(crate::specs::ProgramLaw::program_repaired))]
@@ -155,7 +156,19 @@ pub fn nothing_needless_behind_an_empty_packet()
 
 /// The commands that repair hands on, each applied in order to the old state, leave it with the song, the number of messages, the controls
 /// but 0 and 32, the wheels, the sounding notes with their velocities and the pressures of the repaired state. So it is for every
-/// state and all logs, of which the messages have at most 254 data octets.
+/// state and all logs, of which the messages that reset nothing have at most 254 data octets.
 pub fn most_parts_are_heard()
     ensures { MostPartsAreHeard }
+{}
+
+/// Of a whole state that agrees with the packets before the first lost one, repaired by all logs of a packet's journal: the commands that
+/// repair hands on, each applied in order to the old state, leave it with the programs and their banks, all controls, the song,
+/// the number of messages, the wheels, the sounding notes with their velocities and the pressures of the repaired state.
+pub fn states_are_heard()
+    ensures { StatesAreHeard }
+{}
+
+/// The same where just one packet was lost, by the fresh logs alone of the next one's journal.
+pub fn states_are_heard_by_fresh_logs()
+    ensures { StatesAreHeardByFresh }
 {}
