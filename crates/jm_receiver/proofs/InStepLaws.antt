@@ -3,13 +3,9 @@ use Rattle.std.proofs.Common.{◌≡◌, ℕ, ◌+◌, ◌-◌, ◌%◌, ◌^◌
 use Rattle.std.specs.Prelude.{Ok}
 use Rattle.std.proofs.lemmas.Bool.{cases_Bool, eqb-true, lt-leb}
 use Rattle.std.proofs.lemmas.Bool.Decides.{nat_tests}
-use Rattle.jm_cmds.specs.declared.commands.Command.{Command}
 use Rattle.jm_cmds.specs.declared.history.Sent.{Sent}
 use Rattle.jm_cmds.specs.History.{below, InOrder}
 use Rattle.jm_cmds.specs.Sent.{packet_of}
-use Rattle.jm_section.specs.declared.item.Item.{Item}
-use Rattle.jm_section.specs.declared.item.What.{What}
-use Rattle.jm_section.specs.declared.item.What.TheVariants.{Whole, Part, Passed}
 use Rattle.ch_sysex.specs.ChapterX.{sysex_logs}
 use Rattle.jm_state.specs.declared.state.State.{State}
 use Rattle.jm_state.specs.Apply.{applied}
@@ -21,38 +17,24 @@ use Rattle.jm_receiver.specs.declared.place.Placed.{Placed}
 use Rattle.jm_receiver.specs.declared.place.Uses.{Uses}
 use Rattle.jm_receiver.specs.declared.place.Uses.TheVariants.{All}
 use Rattle.jm_receiver.specs.Receiver.{Received}
-use Rattle.jm_receiver.specs.Group.{all_groups, all_channels}
-use Rattle.jm_receiver.specs.Order.{in_order, repaired-fold}
 use Rattle.jm_receiver.specs.Repair.{repaired}
-use Rattle.jm_receiver.specs.Heard.{what_heard, sent_also, sent_all}
+use Rattle.jm_receiver.specs.Heard.{sent_also, sent_all}
 use Rattle.jm_receiver.specs.Accept.{Contents, opened, placed, used_after, repaired_using, heard_in, took_at, accepted}
 use Rattle.jm_receiver.specs.Whole.{IsWhole, IsReceived, used_whole}
 use Rattle.jm_receiver.specs.Agreement.{Agrees, states_repaired}
 use Rattle.jm_receiver.specs.FreshLogs.{fresh_of}
 use Rattle.jm_receiver.specs.FreshAgreement.{states_by_fresh}
 use Rattle.jm_receiver.specs.KeptAgreement.{commands_agree}
-use Rattle.jm_receiver.specs.InStep.{first_lacking, CanTell, whole_of, commands_in, IsOfStream, IsTaken, ReceiversComeInStep}
+use Rattle.jm_receiver.specs.SectionLaws.{items_state, none_repaired}
+use Rattle.jm_receiver.specs.InStep.{first_lacking, CanTell, commands_in, IsOfStream, IsTaken, ReceiversComeInStep}
 
 -- ## The commands of a section
-
-what_state : (h : Hearing) (what : What) (others : List Command) → fold applied (what_heard h what).state others ≡ fold applied h.state (whole_of what ++ others)
-what_state h (Whole command) others = refl
-what_state h (Part kind octets) others = refl
-what_state h (Passed octet) others = refl
-
-pub items_state : (h : Hearing) (items : List Item) → (fold sent_also h items).state ≡ fold applied h.state (commands_in items)
-items_state h [] = refl
-items_state h (item ∷ items) = items_state (sent_also h item) items ∙ what_state (record h { tick = (h.tick + item.delta) % 2 ^ 32 }) item.what (commands_in items)
 
 commands_state : (s : State) (own : List Sent) → fold applied s (map (λ one. one.command) own) ≡ state_behind s own
 commands_state s [] = refl
 commands_state s (one ∷ own) = commands_state (applied s one.command) own
 
 -- ## The logs that are used
-
-pub none_repaired : (s : State) → repaired s [] ≡ s
-unfolding in_order all_groups all_channels
-none_repaired s = repaired-fold s []
 
 -- Repair by the logs that are used behind so many lost packets.
 pub used_agree : (checkpoint next gap tick : ℕ) (sent : List Sent) (h : Hearing) → AreCommands sent → InOrder packet_of sent → sysex_logs checkpoint (below packet_of (next + gap) sent) ≤ 128 → checkpoint ≤ next →

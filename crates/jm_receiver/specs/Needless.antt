@@ -23,7 +23,7 @@ use Rattle.jm_receiver.specs.Group.{all_channels}
 use Rattle.jm_receiver.specs.HandedOn.{resets_handed_on, messages_handed_on, songs_handed_on, group_handed_on, controls_handed_on, channel_handed_on, repair_handed_on}
 use Rattle.jm_receiver.specs.Heard.{what_heard, sent_also, sent_all}
 use Rattle.jm_receiver.specs.InStep.{commands_in}
-use Rattle.jm_receiver.proofs.InStepLaws.{items_state, none_repaired}
+use Rattle.jm_receiver.specs.SectionLaws.{items_state, none_repaired}
 use Rattle.jm_receiver.specs.Receiver.{Received}
 
 -- a whole command, heard at this time
