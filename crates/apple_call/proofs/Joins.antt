@@ -1,6 +1,6 @@
 -- What was done first and what was done then is what was done.
-use Rattle.std.proofs.Common.{◌≡◌, ℕ, ◌+◌, ◌-◌, ◌^◌, ◌≤◌, ◌<◌, min, Bool, true, false, cond, List, [], ◌∷◌, ◌++◌, length, take, Option, Some, None, refl, sym, ap, subst, ◌∙◌, append_assoc, length-append, arith}
-use Rattle.std.specs.Prelude.{IfSome, fold}
+use Rattle.std.proofs.Common.{◌≡◌, ℕ, ◌+◌, ◌-◌, ◌^◌, ◌≤◌, min, Bool, true, false, cond, List, [], ◌∷◌, ◌++◌, take, Option, Some, None, refl, sym, ap, subst, ◌∙◌, append_assoc, length-append, arith}
+use Rattle.std.specs.Prelude.{IfSome}
 use Rattle.std.specs.Option.{option_map}
 use Rattle.std.proofs.lemmas.List.{append-nil}
 use Rattle.std.proofs.lemmas.List.Sums.{fold-append}
@@ -10,7 +10,6 @@ use Rattle.jm_edge.specs.Ticks.{later, Ticks}
 use Rattle.jm_edge.specs.Wire.{Letter, Wire, Receives, Sends}
 use Rattle.jm_edge.specs.declared.port.Recv.TheVariants as recv
 use Rattle.jm_edge.specs.declared.port.Sent.TheVariants as sent
-use Rattle.apple_msg.specs.declared.message.Message.{Message}
 use Rattle.apple_session.specs.declared.answer.PortKind.{PortKind}
 use Rattle.apple_session.specs.declared.answer.PortKind.TheVariants.{Ctl, Rtp}
 use Rattle.apple_invite.specs.Caller.{Caller}

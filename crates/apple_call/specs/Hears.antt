@@ -1,5 +1,5 @@
 -- What one receive gave.
-use Rattle.std.specs.Prelude.{◌≡◌, List, [], ◌∷◌, Option}
+use Rattle.std.specs.Prelude.{◌≡◌, [], ◌∷◌, Option}
 use Rattle.jm_edge.specs.declared.Addr.{Addr}
 use Rattle.jm_edge.specs.Wire.{Letter, Wire}
 use Rattle.apple_msg.specs.declared.message.Message.{Message}

@@ -1,3 +1,4 @@
 pub mod Exchange
 pub mod Turns
 pub mod Hears
+pub mod Whole

@@ -1,4 +1,4 @@
-use Rattle.std.proofs.Common.{take, Some, None, ap, ◌∷◌, []}
+use Rattle.std.proofs.Common.{take, Some, ap}
 use Rattle.jm_edge.specs.Wire.{Letter}
 use Rattle.apple_msg.specs.declared.message.Message.{Message}
 use Rattle.apple_msg.specs.declared.message.MsgFault.{MsgFault}
