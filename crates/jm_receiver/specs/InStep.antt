@@ -151,7 +151,7 @@ module _ (r : Received) (octets : List ℕ) (c : Contents) (packet : ℕ) (befor
   }
 
 -- the place of a packet that is so many ahead
-ahead_placed : (last gap : ℕ) → gap < 32767 → last + 1 + gap < 2 ^ 64 → placed (Some last) ((last + 1 + gap) % 65536) ≡ Ok (record { number = last + 1 + gap; gap = gap; uses = used_after gap })
+pub ahead_placed : (last gap : ℕ) → gap < 32767 → last + 1 + gap < 2 ^ 64 → placed (Some last) ((last + 1 + gap) % 65536) ≡ Ok (record { number = last + 1 + gap; gap = gap; uses = used_after gap })
 ahead_placed last gap l m =
     let ahead : ((last + 1 + gap) % 65536 + 65536 - last % 65536) % 65536 ≡ gap + 1 = omega (arith, l) in
     let some : eqb (gap + 1) 0 ≡ false = grind (arith, nat_tests) in

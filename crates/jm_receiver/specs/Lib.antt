@@ -46,3 +46,4 @@ pub mod BankPlaces
 pub mod ProgramHeard
 pub mod BankHeard
 pub mod HeardStates
+pub mod HeardPackets
