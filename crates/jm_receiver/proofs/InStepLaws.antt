@@ -25,7 +25,7 @@ use Rattle.jm_receiver.specs.Agreement.{Agrees, states_repaired}
 use Rattle.jm_receiver.specs.FreshLogs.{fresh_of}
 use Rattle.jm_receiver.specs.FreshAgreement.{states_by_fresh}
 use Rattle.jm_receiver.specs.KeptAgreement.{commands_agree}
-use Rattle.jm_receiver.specs.SectionLaws.{items_state, none_repaired}
+use Rattle.jm_receiver.specs.SectionLaws.{items_state, none_repaired, ahead_placed}
 use Rattle.jm_receiver.specs.InStep.{first_lacking, CanTell, commands_in, IsOfStream, IsTaken, ReceiversComeInStep}
 
 -- ## The commands of a section
@@ -81,16 +81,6 @@ module _ (r : Received) (octets : List ℕ) (c : Contents) (packet : ℕ) (befor
     missed = missed;
     in_step = heard_agrees place.uses agrees;
   }
-
--- the place of a packet that is so many ahead
-ahead_placed : (last gap : ℕ) → gap < 32767 → last + 1 + gap < 2 ^ 64 → placed (Some last) ((last + 1 + gap) % 65536) ≡ Ok (record { number = last + 1 + gap; gap = gap; uses = used_after gap })
-ahead_placed last gap l m =
-    let ahead : ((last + 1 + gap) % 65536 + 65536 - last % 65536) % 65536 ≡ gap + 1 = omega (arith, l) in
-    let some : eqb (gap + 1) 0 ≡ false = grind (arith, nat_tests) in
-    let near : leb 32768 (gap + 1) ≡ false = lt-leb 32768 (gap + 1) (omega (arith, l)) in
-    let number : (last + (gap + 1)) % 2 ^ 64 ≡ last + 1 + gap = omega (arith, m) in
-    let lost : gap + 1 - 1 ≡ gap = omega arith in
-    rw (ahead, some, near, number, lost) refl
 
 -- the first packet
 first_taken : (r : Received) (octets : List ℕ) (c : Contents) (checkpoint packet tick : ℕ) (sent own : List Sent) → opened r.ssrc octets ≡ Ok c → IsOfStream checkpoint packet tick sent own c →

@@ -116,6 +116,20 @@ journal_kept checkpoint packet tick sent =
 
 -- ## The channels, one after the other
 
+pub self_followed : (s : State) → IsState s → Follows no_programs no_controls s s
+self_followed s is = record {
+  left = is;
+  right = is;
+  song = refl;
+  sysex_count = refl;
+  program = λ channel l n. refl;
+  control = λ channel number l k n. refl;
+  wheel = λ channel l. refl;
+  note = λ channel note l k. refl;
+  pressure = λ channel l. refl;
+  poly = λ channel note l k. refl;
+}
+
 left_elsewhere : {V : Type 0} (channel other : ℕ) (groups : Group → Bool) (part : State → Option V) (says : LogKind → Option (Option V)) → IsPart channel groups part says → (logs : List Log) (u : State) → IsState u → eqb channel other ≡ false →
     part (channel_repaired logs u other) ≡ part u
 left_elsewhere channel other groups part says is_part logs u is apart =
@@ -160,22 +174,8 @@ module _ (checkpoint next packet : ℕ) (sent : List Sent) (s : State) (logs : L
       let h = listening s time in
       channels_heard 0 16 (songs_handed_on logs (messages_handed_on logs (resets_handed_on logs h))) (session_done s logs) (omega arith) session_untouched
       (session_follows no_programs no_controls logs h s kept (self_followed s is))
-    where
-      self_followed : (s : State) → IsState s → Follows no_programs no_controls s s
-      self_followed s is = record {
-        left = is;
-        right = is;
-        song = refl;
-        sysex_count = refl;
-        program = λ channel l n. refl;
-        control = λ channel number l k n. refl;
-        wheel = λ channel l. refl;
-        note = λ channel note l k. refl;
-        pressure = λ channel l. refl;
-        poly = λ channel note l k. refl;
-      }
 
-all_followed : (t s : State) → Follows no_programs no_controls t s → SameBut untold s t
+pub all_followed : (t s : State) → Follows no_programs no_controls t s → SameBut untold s t
 all_followed t s f = record {
   song = λ n. f.song;
   sequencer = λ n. absurd (let b : true ≡ false = n in cc);
@@ -199,14 +199,19 @@ journal_own checkpoint packet tick sent o channel l = record {
   reset = reset_of_journal checkpoint packet tick sent o;
 }
 
+pub journal_follows : (checkpoint next packet tick time : ℕ) (sent : List Sent) (s : State) → AreCommands sent → InOrder packet_of sent → sysex_logs checkpoint (below packet_of packet sent) ≤ 128 → checkpoint ≤ next → next ≤ packet →
+    IsWhole s → Agrees s (below packet_of next sent) →
+    Follows no_programs no_controls (repair_handed_on (journal_logs checkpoint packet tick sent) (repaired s (journal_logs checkpoint packet tick sent)) (listening s time)).state (repaired s (journal_logs checkpoint packet tick sent))
+journal_follows checkpoint next packet tick time sent s h o messages early late is agrees =
+    all_heard checkpoint next packet sent s (journal_logs checkpoint packet tick sent) o early late is.state (journal_own checkpoint packet tick sent o) (journal_kept checkpoint packet tick sent) agrees
+    (states_repaired checkpoint next packet tick sent s h o messages early late is agrees) time
+
 pub states_heard : StatesAreHeard
 states_heard checkpoint next packet tick time sent s h o messages early late is agrees =
     let logs = journal_logs checkpoint packet tick sent in
     let whole = repaired s logs in
-    let right = states_repaired checkpoint next packet tick sent s h o messages early late is agrees in
     subst (λ (t : State). SameBut untold whole t) (repair_listened s logs whole (listening s time) refl)
-    (all_followed (repair_handed_on logs whole (listening s time)).state whole
-    (all_heard checkpoint next packet sent s logs o early late is.state (journal_own checkpoint packet tick sent o) (journal_kept checkpoint packet tick sent) agrees right time))
+    (all_followed (repair_handed_on logs whole (listening s time)).state whole (journal_follows checkpoint next packet tick time sent s h o messages early late is agrees))
 
 -- ## The fresh logs
 
@@ -220,13 +225,18 @@ fresh_own checkpoint last tick sent o early channel l =
       reset = reset_fresh checkpoint last sent early tick ∙ reset_of_journal last (last + 1) tick sent o;
     }
 
+pub fresh_follows : (checkpoint last tick time : ℕ) (sent : List Sent) (s : State) → AreCommands sent → InOrder packet_of sent → sysex_logs checkpoint (below packet_of (last + 1) sent) ≤ 128 → checkpoint ≤ last →
+    IsWhole s → Agrees s (below packet_of last sent) →
+    Follows no_programs no_controls (repair_handed_on (fresh_of (journal_logs checkpoint (last + 1) tick sent)) (repaired s (fresh_of (journal_logs checkpoint (last + 1) tick sent))) (listening s time)).state (repaired s (fresh_of (journal_logs checkpoint (last + 1) tick sent)))
+fresh_follows checkpoint last tick time sent s h o messages early is agrees =
+    let journal = journal_logs checkpoint (last + 1) tick sent in
+    all_heard last last (last + 1) sent s (fresh_of journal) o (omega arith) (omega arith) is.state (fresh_own checkpoint last tick sent o early)
+    (AllByRecursion-filter (λ log. is_kept_log log.what ≡ true) (λ log. log.fresh) journal (journal_kept checkpoint (last + 1) tick sent)) agrees
+    (states_by_fresh checkpoint last tick sent s h o messages early is agrees) time
+
 pub states_heard_by_fresh : StatesAreHeardByFresh
 states_heard_by_fresh checkpoint last tick time sent s h o messages early is agrees =
-    let journal = journal_logs checkpoint (last + 1) tick sent in
-    let logs = fresh_of journal in
+    let logs = fresh_of (journal_logs checkpoint (last + 1) tick sent) in
     let whole = repaired s logs in
-    let right = states_by_fresh checkpoint last tick sent s h o messages early is agrees in
     subst (λ (t : State). SameBut untold whole t) (repair_listened s logs whole (listening s time) refl)
-    (all_followed (repair_handed_on logs whole (listening s time)).state whole
-    (all_heard last last (last + 1) sent s logs o (omega arith) (omega arith) is.state (fresh_own checkpoint last tick sent o early)
-    (AllByRecursion-filter (λ log. is_kept_log log.what ≡ true) (λ log. log.fresh) journal (journal_kept checkpoint (last + 1) tick sent)) agrees right time))
+    (all_followed (repair_handed_on logs whole (listening s time)).state whole (fresh_follows checkpoint last tick time sent s h o messages early is agrees))

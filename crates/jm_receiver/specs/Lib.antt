@@ -47,3 +47,4 @@ pub mod ProgramHeard
 pub mod BankHeard
 pub mod HeardStates
 pub mod SectionLaws
+pub mod HeardPackets

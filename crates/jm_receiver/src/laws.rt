@@ -13,6 +13,7 @@ ghost use Rattle.jm_receiver.specs.Needless.{NothingNeedlessIsHeard};
 ghost use Rattle.jm_receiver.specs.Unfresh.{NothingNeedlessBehindAnEmptyPacket};
 ghost use Rattle.jm_receiver.specs.HeardLaw.{MostPartsAreHeard};
 ghost use Rattle.jm_receiver.specs.HeardStates.{StatesAreHeard, StatesAreHeardByFresh};
+ghost use Rattle.jm_receiver.specs.HeardPackets.{PacketsAreHeard};
 
 /// The program of each channel is repaired, with the bank that it was chosen with.
 #[tactic(auto, using(crate::specs::ProgramLaw::program_repaired))]
@@ -171,4 +172,11 @@ pub fn states_are_heard()
 /// The same where just one packet was lost, by the fresh logs alone of the next one's journal.
 pub fn states_are_heard_by_fresh_logs()
     ensures { StatesAreHeardByFresh }
+{}
+
+/// What a receiver in step hears of a later packet of the stream, each command played in order into its old state, gives its new one, but for
+/// song position, time code, the pedal's toggles, selections and parameters: whatever was lost before the packet. The premises are those
+/// of `receivers_come_in_step`.
+pub fn packets_are_heard()
+    ensures { PacketsAreHeard }
 {}
