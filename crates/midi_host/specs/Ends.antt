@@ -1,7 +1,7 @@
 -- How a run ends: its status, what was read and what was written, for an input that the source tells.
 use Rattle.std.specs.Prelude.{◌≡◌, ℕ, ◌+◌, ◌-◌, ◌^◌, ◌<◌, ◌≤◌, true, false, List, [], ◌++◌, Option, Some, IfSome, IsTrue, length, ⊤}
 use Rattle.midi_host.specs.declared.status.Status.{Status}
-use Rattle.midi_host.specs.declared.status.Status.TheVariants.{Done, Usage, BadScript, ReadFault, WriteFault, NoMemory}
+use Rattle.midi_host.specs.declared.status.Status.TheVariants.{Done, Usage, BadScript, ReadFault, WriteFault, NoMemory, PortFault}
 use Rattle.midi_host.specs.declared.conversation.TheConstants.{MOST_LINES}
 use Rattle.midi_host.specs.Text.{lines_of, is_whole, IsOfLine}
 use Rattle.midi_host.specs.Told.{Told}
@@ -27,6 +27,7 @@ Ends BadScript answer left left' wrote wrote' = IfSome left (λ input. ((answer 
 Ends ReadFault answer left left' wrote wrote' = IfSome left (λ input. EndsAtFault answer input left' wrote wrote')
 Ends WriteFault answer left left' wrote wrote' = IfSome left (λ input. WrotePart wrote wrote' (answer input).text)
 Ends NoMemory answer left left' wrote wrote' = IfSome left (λ input. WrotePart wrote wrote' (answer input).text)
+Ends PortFault answer left left' wrote wrote' = ⊥
 
 -- a fact for the one status
 abbrev pub OnReadFault : Status → Type 0 → Type 0
@@ -45,6 +46,7 @@ Finishes WriteFault told wrote wrote' = WrotePart wrote wrote' told.text
 Finishes NoMemory told wrote wrote' = WrotePart wrote wrote' told.text
 Finishes Usage told wrote wrote' = ⊥
 Finishes ReadFault told wrote wrote' = ⊥
+Finishes PortFault told wrote wrote' = ⊥
 
 -- a count of faults stayed, below its last value: none came
 pub record IsFaultless (before after : ℕ) : Type 0 where
@@ -59,6 +61,7 @@ Completes NoMemory told = ⊤
 Completes Usage told = ⊥
 Completes ReadFault told = ⊥
 Completes WriteFault told = ⊥
+Completes PortFault told = ⊥
 
 -- an input that is answered whole has no more lines than one may have
 abbrev pub HasFewLines : Status → List ℕ → Type 0

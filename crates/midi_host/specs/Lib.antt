@@ -1,4 +1,5 @@
 pub mod Text
+pub mod VerbChoice
 pub mod Told
 pub mod Outcome
 pub mod Did
@@ -15,3 +16,6 @@ pub mod StateLines
 pub mod Repair
 pub mod Run
 pub mod About
+pub mod Invitation
+pub mod Ended
+pub mod Invite

@@ -1,10 +1,14 @@
-//! The program: a verb's script is read from standard input, and its answers go to standard output.
+//! The program: a verb's script is read from standard input, and its answers go to standard output. `invite` calls another host
+//! over two ports instead.
 #![tactic(auto)]
 
 mod about;
 mod answering;
 mod answers;
 mod conversation;
+mod ended;
+mod invitation;
+mod invite;
 mod line_reader;
 mod players;
 mod read;
@@ -15,21 +19,34 @@ mod run;
 mod session_answers;
 mod state_lines;
 mod status;
+mod verb_choice;
+mod verb_kind;
 mod word;
+mod word_forms;
 mod writing;
 
 use about::about;
-use jm_edge::{ReadSource, WriteSink};
+use invite::run_invite;
+use jm_edge::{Addr, ReadSource, UdpPort, WallTicker, WriteSink};
 use run::run;
 use status::Status;
 use std::alloc::{AllocError, Global};
 use std::env;
 use std::io::{self, ErrorKind};
+use std::net::Net;
 use std::process::ExitCode;
 use std::rt::Env;
+use verb_choice::verb;
+use verb_kind::Verb;
 use word::Word;
 
-const USAGE: &str = "usage: midi_host replay|read|repair";
+const USAGE: &str = "usage: midi_host replay|read|repair|invite ADDR TURNS";
+
+/// The number with which the process ends where no port could be opened.
+const NO_PORT: u8 = 7;
+
+/// How often two ports that stand side by side are looked for.
+const MOST_PAIRS: u8 = 16;
 
 // The words after the program's name.
 fn program_words(rt: &(impl Env + AllocGlobal)) -> io::Result<Vec<Word>> {
@@ -40,28 +57,89 @@ fn program_words(rt: &(impl Env + AllocGlobal)) -> io::Result<Vec<Word>> {
     Ok(words)
 }
 
-fn main(rt: HostRuntime) -> ExitCode {
-    let status = match program_words(&rt) {
-        Ok(words) => {
-            if let Some(text) = about(words.as_slice()) {
-                return match print!(rt; "{text}") {
-                    Ok(()) => ExitCode::SUCCESS,
-                    Err(_) => ExitCode::from(Status::WriteFault.number()),
-                };
+// A port that the system chooses, and the next one, where that is free.
+fn open_pair(rt: &(impl Net + AllocGlobal)) -> io::Result<Option<(UdpPort, UdpPort)>> {
+    let control = UdpPort::open(rt.alloc(), rt, Addr { host: 0, port: 0 })?;
+    match control.local() {
+        Some(Addr { port, .. }) if port < u16::MAX => {
+            let next = Addr {
+                host: 0,
+                port: port + 1,
+            };
+            match UdpPort::open(rt.alloc(), rt, next) {
+                Ok(data_port) => Ok(Some((control, data_port))),
+                Err(_) => Ok(None),
             }
-            let mut source = ReadSource::new(rt.stdin());
-            let mut sink = WriteSink::new(rt.stdout());
-            run(words.as_slice(), &mut source, &mut sink, rt.alloc())
         }
-        Err(error) if error.kind() == ErrorKind::OutOfMemory => Status::NoMemory,
-        Err(_) => Status::Usage,
-    };
-    if status == Status::Usage {
-        let _ = eprintln!(rt; "{USAGE}");
+        _ => Ok(None),
     }
-    ExitCode::from(status.number())
 }
 
+// Two ports of this program's own, control first, since hosts take a caller's data port to be the next one.
+fn open_ports(rt: &(impl Net + AllocGlobal)) -> Option<(UdpPort, UdpPort)> {
+    for _pair in 0..MOST_PAIRS {
+        match open_pair(rt) {
+            Ok(Some(ports)) => return Some(ports),
+            Ok(None) => {}
+            Err(_) => return None,
+        }
+    }
+    None
+}
+
+// Calls another host over the system's ports and clock, and gives the number with which the process ends.
+fn call(words: &[Word], rt: &HostRuntime) -> u8 {
+    let Some((mut control, mut data_port)) = open_ports(rt) else {
+        return NO_PORT;
+    };
+    let Ok(clock) = rt.clone() else {
+        return Status::NoMemory.number();
+    };
+    let mut ticks = WallTicker::new(clock);
+    let mut sink = WriteSink::new(rt.stdout());
+    run_invite(
+        words,
+        &mut control,
+        &mut data_port,
+        &mut ticks,
+        &mut sink,
+        rt.alloc(),
+    )
+    .number()
+}
+
+// Answers the words, and gives the number with which the process ends.
+fn answer(words: &[Word], rt: &HostRuntime) -> u8 {
+    if let Some(text) = about(words) {
+        return match print!(rt; "{text}") {
+            Ok(()) => Status::Done.number(),
+            Err(_) => Status::WriteFault.number(),
+        };
+    }
+    match verb(words) {
+        Verb::Plain => {
+            let mut source = ReadSource::new(rt.stdin());
+            let mut sink = WriteSink::new(rt.stdout());
+            run(words, &mut source, &mut sink, rt.alloc()).number()
+        }
+        Verb::Invite => call(words, rt),
+    }
+}
+
+fn main(rt: HostRuntime) -> ExitCode {
+    let number = match program_words(&rt) {
+        Ok(words) => answer(words.as_slice(), &rt),
+        Err(error) if error.kind() == ErrorKind::OutOfMemory => Status::NoMemory.number(),
+        Err(_) => Status::Usage.number(),
+    };
+    if number == Status::Usage.number() {
+        let _ = eprintln!(rt; "{USAGE}");
+    }
+    ExitCode::from(number)
+}
+
+#[cfg(test)]
+mod invite_tests;
 #[cfg(test)]
 mod loss_tests;
 #[cfg(test)]

@@ -17,6 +17,8 @@ pub enum Status {
     WriteFault = 5,
     /// There was no memory. A front of the text was written.
     NoMemory = 6,
+    /// A receive failed.
+    PortFault = 8,
 }
 
 impl Status {

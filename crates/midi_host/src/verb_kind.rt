@@ -1,0 +1,10 @@
+//! The top calls of the program.
+
+/// A top call of the program.
+#[derive(Clone, Copy, Debug, PartialEq, Eq)]
+pub enum Verb {
+    /// The one that reads lines, also where there is no word or another one.
+    Plain,
+    /// `invite`: the one that calls another host.
+    Invite,
+}
