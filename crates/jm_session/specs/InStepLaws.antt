@@ -56,7 +56,7 @@ cut_stream config steps tick =
 sent_by_cut : (config : Config) (steps : List Step) (tick : ℕ) → sent_in (session_of config (steps ++ Cut tick ∷ [])) ≡ sent_in (session_of config steps) ++ next_of (session_of config steps).stream tick
 sent_by_cut config steps tick = ap sent_of (cut_stream config steps tick) ∙ cut_sent (session_of config steps).stream tick
 
-number_by_cut : (config : Config) (steps : List Step) (tick : ℕ) → number_of (session_of config (steps ++ Cut tick ∷ [])) ≡ number_of (session_of config steps) + 1
+pub number_by_cut : (config : Config) (steps : List Step) (tick : ℕ) → number_of (session_of config (steps ++ Cut tick ∷ [])) ≡ number_of (session_of config steps) + 1
 number_by_cut config steps tick =
     ap (λ (stream : Stream). length stream.packets) (cut_stream config steps tick)
     ∙ (let all = length-append (session_of config steps).stream.packets ((next_packet (session_of config steps).stream tick).packet ∷ []) in omega (arith, all))

@@ -4,3 +4,5 @@ pub mod Premises
 pub mod PremiseLaws
 pub mod InStep
 pub mod InStepLaws
+pub mod Honest
+pub mod HonestLaws

@@ -3,6 +3,7 @@
 //! the clauses of `Book::steps` say. Each law is the contract of a function that does nothing.
 
 ghost use Rattle.jm_session.specs.Packets.{CheckpointsAreTold, PacketsAreRead};
+ghost use Rattle.jm_session.specs.Honest.{HonestParticipantsStayInStep};
 ghost use Rattle.jm_session.specs.InStep.{ReceiversStayInStep};
 ghost use Rattle.jm_session.specs.Premises.{SentStays, SessionsAreRepaired, SessionsMeetPremises};
 
@@ -76,4 +77,16 @@ pub fn receivers_stay_in_step()
 {
     receivers_come_in_step();
     packets_are_read();
+}
+
+/// The receiver of an honest participant stays in step, with no premise on checkpoints or distances. The participant joins by a
+/// join or by an invitation, in step with the last packet that was sent, or before packet 1 is; it stays; and each of its
+/// reports that moves its mark moves it to a packet that its receiver took. Whatever other steps the session takes, and
+/// whichever packets are lost or come late: each packet that is later than the last one that the receiver took has a
+/// checkpoint that isn't later than the first packet that it lacks, is at most 32,767 ahead, is taken under its number, and
+/// leaves the receiver in step again. The session's tape takes fewer than 2^64 steps.
+pub fn honest_participants_stay_in_step()
+    ensures { HonestParticipantsStayInStep }
+{
+    receivers_stay_in_step();
 }
