@@ -12,3 +12,6 @@ mod sending;
 
 pub use pumping::pump;
 pub use sender::{DATA_WORKER, Pumped, Sender};
+
+#[cfg(test)]
+mod tests;
