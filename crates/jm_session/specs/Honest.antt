@@ -115,9 +115,9 @@ pub record StaysInStep (config : Config) (s : Situation) : Type 0 where
   pub in_step : IsInStep config s.steps s.receiver
   pub next : (before : List Step) (tick : ℕ) → IsLater config s before tick → Meets config before tick s.receiver
 
--- So it is after whatever befalls the session and an honest participant's receiver, whichever packets are lost or late. (Not: a mark that
--- another participant's report moves on; a joiner with a mark past the last packet; a cut that is taken where a participant that is
--- joined is 32,768 behind; a checkpoint that passes the least mark.)
+-- So it is after whatever befalls the session and an honest participant's receiver, whichever packets are lost or late. (Not: a sender that
+-- goes on where a participant is further behind than its receiver can tell; a mark that moves by another step than a report of its own; a
+-- late packet whose checkpoint is past what the receiver has.)
 abbrev pub HonestParticipantsStayInStep : Type 0
 HonestParticipantsStayInStep =
     (config : Config) (ssrc : ℕ) (before : List Step) (join : Step) (r : Received) (events : List Event) → config.ssrc < 2 ^ 32 → config.events < 2 ^ 64

@@ -1,5 +1,5 @@
 -- Receivers of a session stay in step.
-use Rattle.std.proofs.Common.{◌≡◌, ℕ, ◌+◌, ◌%◌, ◌≤◌, eqb, List, [], ◌∷◌, ◌++◌, Some, map, fold, length, refl, sym, ap, subst, ◌∙◌, inl, inr, arith, append-nil, append_assoc, length-append}
+use Rattle.std.proofs.Common.{◌≡◌, ℕ, ◌+◌, ◌≤◌, eqb, List, [], ◌∷◌, ◌++◌, map, length, refl, sym, ap, subst, ◌∙◌, inl, inr, arith, append-nil, append_assoc, length-append}
 use Rattle.std.proofs.lemmas.Bool.{cases_Bool, eqb-true}
 use Rattle.std.proofs.lemmas.Bool.Decides.{nat_tests}
 use Rattle.std.proofs.lemmas.List.Sums.{fold-append}
@@ -7,7 +7,6 @@ use Rattle.std.specs.Prelude.{Ok}
 use Rattle.jm_cmds.specs.declared.history.Sent.{Sent}
 use Rattle.jm_cmds.specs.History.{below}
 use Rattle.jm_cmds.specs.Sent.{packet_of}
-use Rattle.jm_section.specs.declared.item.Item.{Item}
 use Rattle.jm_receiver.specs.Accept.{Contents, opened}
 use Rattle.jm_receiver.specs.Agreement.{Agrees}
 use Rattle.jm_receiver.specs.InStep.{first_lacking, CanTell, commands_in, IsOfStream, IsTaken, ReceiversComeInStep}
@@ -16,14 +15,14 @@ use Rattle.jm_receiver.specs.Whole.{accepted_whole}
 use Rattle.jm_book.specs.declared.steps.Config.{Config}
 use Rattle.jm_book.specs.declared.steps.Step.{Step}
 use Rattle.jm_book.specs.declared.steps.Step.TheVariants.{Cut}
-use Rattle.jm_book.specs.Stream.{Stream, stream_after, stream_of, as_sent, sent_from, sent_of, next_packet, next_of, cut_off}
+use Rattle.jm_book.specs.Stream.{Stream, stream_after, stream_of, as_sent, sent_of, next_packet, next_of, cut_off}
 use Rattle.jm_book.specs.Session.{session_of, checkpoint_of, session_stream}
 use Rattle.jm_book.specs.LimitLaws.{sent_below}
 use Rattle.jm_book.specs.Pending.{timed_after, timed_of}
 use Rattle.jm_book.specs.Legal.{IsLegal}
 use Rattle.jm_book.specs.Commands.{HaveCommands}
 use Rattle.jm_book.specs.Packet.{packet_of as octets_of_cut}
-use Rattle.jm_session.specs.Packets.{number_of, tick_of_cut, timed_of_cut, item_of, items_of, logs_of_cut, IsRead, PacketsAreRead}
+use Rattle.jm_session.specs.Packets.{number_of, tick_of_cut, timed_of_cut, item_of, items_of, IsRead, PacketsAreRead}
 use Rattle.jm_session.specs.Premises.{sent_in}
 use Rattle.jm_session.specs.PremiseLaws.{premises_met, sent_from-append, sent_stays}
 use Rattle.jm_session.specs.InStep.{IsInStep, ComesInStep, ReceiversStayInStep}
