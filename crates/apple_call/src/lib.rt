@@ -10,6 +10,3 @@ mod whole;
 
 pub use turns::{Called, TurnsEnd, call_turns, hang_up};
 pub use whole::{CallEnd, call_host};
-
-#[cfg(test)]
-mod tests;

@@ -13,6 +13,3 @@ mod stage;
 
 pub use dialed::{DialAct, Dialed, EndCause, Phase};
 pub use inviter::Inviter;
-
-#[cfg(test)]
-mod tests;

@@ -16,6 +16,3 @@ pub use message::{Message, MsgFault};
 pub use name::Name;
 pub use reading::read_message;
 pub use writing::write_message;
-
-#[cfg(test)]
-mod tests;

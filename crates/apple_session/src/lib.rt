@@ -18,6 +18,3 @@ pub use answer::{Act, Answer, PortKind, Why};
 pub use clock::offset;
 pub use peer::Peer;
 pub use session::Session;
-
-#[cfg(test)]
-mod tests;

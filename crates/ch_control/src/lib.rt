@@ -9,6 +9,3 @@ mod events;
 pub mod laws;
 
 pub use events::{ControlEvent, control_event};
-
-#[cfg(test)]
-mod tests;

@@ -14,6 +14,3 @@ mod shape;
 
 pub use events::{NoteEvent, note_event};
 pub use presses::{PolyEvent, poly_event, pressed_note};
-
-#[cfg(test)]
-mod tests;

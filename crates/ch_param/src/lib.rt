@@ -12,6 +12,3 @@ pub mod m;
 mod walk;
 
 pub use events::ParamEvent;
-
-#[cfg(test)]
-mod tests;

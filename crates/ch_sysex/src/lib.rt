@@ -11,6 +11,3 @@ mod log;
 pub mod x;
 
 pub use events::{SysexEvent, sysex_event};
-
-#[cfg(test)]
-mod tests;

@@ -13,6 +13,3 @@ pub mod q;
 pub mod v;
 
 pub use items::SystemItem;
-
-#[cfg(test)]
-mod tests;

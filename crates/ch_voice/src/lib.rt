@@ -25,6 +25,3 @@ pub use events::{
 pub use pressure_table::PressureTable;
 pub use program_table::ProgramTable;
 pub use wheel_table::WheelTable;
-
-#[cfg(test)]
-mod tests;

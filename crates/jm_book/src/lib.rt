@@ -22,6 +22,3 @@ pub use book::Book;
 pub use lists::{AddrList, FeedbackEntry, FeedbackList};
 pub use participants::Participant;
 pub use steps::{Config, Step};
-
-#[cfg(test)]
-mod tests;

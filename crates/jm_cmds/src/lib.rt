@@ -38,6 +38,3 @@ pub use sequencing::{
     SequencerEvent, SequencerPart, sequencer_after, sequencer_event, sequencer_step,
 };
 pub use system_exclusive::{LONGEST_KEPT, Sysex, SysexFault, data_len};
-
-#[cfg(test)]
-mod tests;

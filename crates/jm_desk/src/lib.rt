@@ -19,6 +19,3 @@ pub use desk::Desk;
 pub use held::Held;
 pub use pass::Pass;
 pub use turn::{DeskTurn, Outcome, Turned, Unplayed};
-
-#[cfg(test)]
-mod tests;

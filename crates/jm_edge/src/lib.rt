@@ -35,8 +35,3 @@ pub struct Addr {
     /// The UDP port.
     pub port: u16,
 }
-
-#[cfg(test)]
-mod port_tests;
-#[cfg(test)]
-mod tests;

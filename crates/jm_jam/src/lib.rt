@@ -9,6 +9,3 @@ mod text;
 
 pub use generator::{GREATEST_SEED, Generator};
 pub use text::summary;
-
-#[cfg(test)]
-mod tests;

@@ -15,6 +15,3 @@ mod system;
 
 pub use fits::{Fit, plain_fits};
 pub use journal::{plain_len, plain_write};
-
-#[cfg(test)]
-mod tests;

@@ -54,29 +54,3 @@ fn payload_octet(marker: bool) -> u8
         PAYLOAD_TYPE
     }
 }
-
-#[cfg(test)]
-mod tests {
-    use super::*;
-    use std::test::Fail;
-
-    #[test]
-    fn writes_the_twelve_octets(rt: HostRuntime) -> Result<(), Fail> {
-        let mut out = Octets::with_room(HEADER_LEN, rt.alloc())?;
-        if out.spare() < HEADER_LEN {
-            return Ok(());
-        }
-        let header = Header {
-            number: 0x0102,
-            tick: 0x0304_0506,
-            ssrc: 0x1122_3344,
-            marker: true,
-        };
-        write_header(&header, &mut out);
-        assert_eq!(rt;
-            out.as_slice(),
-            [0x80, 0xe1, 1, 2, 3, 4, 5, 6, 0x11, 0x22, 0x33, 0x44].as_slice()
-        );
-        Ok(())
-    }
-}

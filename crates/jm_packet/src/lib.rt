@@ -10,6 +10,3 @@ mod reading;
 
 pub use header::{HEADER_LEN, Header, write_header};
 pub use reading::{Packet, PacketFault, read_packet, read_source};
-
-#[cfg(test)]
-mod tests;

@@ -30,10 +30,3 @@ mod x;
 pub use faults::JournalFault;
 pub use journal::{Report, read_journal};
 pub use logs::{Log, LogKind, Logs};
-
-#[cfg(test)]
-mod channel_tests;
-#[cfg(test)]
-mod form_tests;
-#[cfg(test)]
-mod tests;

@@ -18,10 +18,4 @@ mod repair;
 pub use heard::{Heard, HeardKind, HeardList};
 pub use opening::AcceptFault;
 pub use receiver::{Receiver, Took};
-
-#[cfg(test)]
-mod law_tests;
-#[cfg(test)]
-mod repair_tests;
-#[cfg(test)]
-mod tests;
+pub use repair::repair;

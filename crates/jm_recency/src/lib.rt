@@ -8,6 +8,3 @@
 mod recency;
 
 pub use recency::Recency;
-
-#[cfg(test)]
-mod tests;

@@ -31,8 +31,3 @@ pub use line::{Line, LineFault, LineKind};
 pub use name::PlayerName;
 pub use printing::{answer_len, write_answer};
 pub use reading::read_line;
-
-#[cfg(test)]
-mod answer_tests;
-#[cfg(test)]
-mod line_tests;

@@ -20,6 +20,3 @@ pub use item::{Item, PartKind, What};
 pub use next::{Place, next_len, write_next};
 pub use reading::{Section, SectionFault, read_section};
 pub use writing::write_section;
-
-#[cfg(test)]
-mod tests;

@@ -12,6 +12,3 @@ mod sending;
 
 pub use pumping::pump;
 pub use sender::{DATA_WORKER, Pumped, Sender};
-
-#[cfg(test)]
-mod tests;

@@ -22,8 +22,3 @@ pub use channel::ProgramPart;
 pub use entered::Halves;
 pub use jm_cmds::{Selection, SequencerPart, TimePart};
 pub use state::State;
-
-#[cfg(test)]
-mod table_tests;
-#[cfg(test)]
-mod tests;

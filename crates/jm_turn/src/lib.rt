@@ -17,6 +17,3 @@ pub use pass::Pass;
 pub use told::{Entry, Told};
 pub use turn::Turn;
 pub use view::{Kind, Made, Stage, View};
-
-#[cfg(test)]
-mod tests;

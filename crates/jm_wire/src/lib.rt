@@ -13,6 +13,3 @@ pub use delta::{DeltaFault, delta_len, read_delta, write_delta};
 pub use heads::{ChannelHead, JournalHead, NoteHead, ParamHead, SeqHead, SystemHead, TimeHead};
 pub use number::extend16;
 pub use octets::{Octets, behind};
-
-#[cfg(test)]
-mod tests;

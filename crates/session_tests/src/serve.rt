@@ -1,0 +1,143 @@
+// What no clause says: a worked session over a port in memory.
+ghost use Rattle.std.specs.Prelude.{◌≡◌, ◌≤◌, ◌+◌, [], length, IfOk};
+ghost use Rattle.jm_turn.specs.declared.view.Kind.TheVariants.{Opening};
+ghost use Rattle.jm_desk.specs.Sharing.{IsOf};
+
+use jm_serve::*;
+use apple_msg::{Message, Name};
+use apple_session::PortKind;
+use jm_book::{Book, Config};
+use jm_cmds::{Channel, Command, D7};
+use jm_desk::{Desk, Pass};
+use jm_edge::{Addr, FreeGate, MemPort};
+use jm_wire::Octets;
+use std::alloc::Global;
+use std::sync::Wait;
+use std::test::Fail;
+
+const CONTROL: Addr = Addr {
+    host: 0x7F00_0001,
+    port: 5004,
+};
+
+const DATA: Addr = Addr {
+    host: 0x7F00_0001,
+    port: 5005,
+};
+
+const FIRST_PACKET: &[u8] = b"\x80\xE1\x00\x00\x00\x00\x00\x64\x11\x22\x33\x44\x03\x90\x3C\x64";
+
+fn new_book(alloc: Global) -> Result<Book, Fail>
+    ensures { IfOk result (λ b. b.steps ≡ []) }
+{
+    let name = Name::new(b"midi_host").ok_or("a name")?;
+    let config = Config {
+        ssrc: 0x1122_3344,
+        events: 40_000,
+        name,
+    };
+    Ok(Book::new(config, alloc)?)
+}
+
+fn new_sender() -> Sender {
+    Sender {
+        last_cut: 0,
+        owed: false,
+        call: 0,
+        send_faults: 0,
+    }
+}
+
+// A participant comes by its two invitations, and a player plays a note.
+fn opened<R: Wait>(rt: &R, desk: &Desk, pass: &mut Pass) -> Result<(), Fail>
+    requires { IsOf desk.now pass.old }
+    ensures { IsOf desk.now pass.new }
+{
+    let invitation = Message::Invite {
+        token: 0x0102_0304,
+        ssrc: 0x22,
+        name: Name::new(b"peer").ok_or("a name")?,
+    };
+    let _control = desk.say(rt, pass, PortKind::Ctl, CONTROL, &invitation, 0)?;
+    let _data = desk.say(rt, pass, PortKind::Rtp, DATA, &invitation, 0)?;
+    let _player = desk.enter(rt, pass)?;
+    let note = Command::NoteOn {
+        channel: Channel::new(0).ok_or("a channel")?,
+        note: D7::new(60).ok_or("a note")?,
+        velocity: D7::new(100).ok_or("a velocity")?,
+    };
+    match desk.play(rt, pass, 0, note, 100) {
+        Ok(_) => Ok(()),
+        Err(_) => Err(Fail::new("no memory")),
+    }
+}
+
+#[test]
+fn a_packet_when_it_is_due(rt: HostRuntime) -> Result<(), Fail> {
+    let (desk, mut pass) = Desk::new(new_book(rt.alloc())?, rt.alloc())?;
+    opened(&rt, &desk, &mut pass)?;
+    let mut port = MemPort::new(rt.alloc(), Vec::new(rt.alloc()), 9, 900, &[], &[1])?;
+    let mut out = Octets::with_room(21_100, rt.alloc())?;
+    let mut sender = new_sender();
+    sender.owed = true;
+    let early = pump(
+        &rt,
+        &desk,
+        &mut pass,
+        &mut port,
+        &mut out,
+        99,
+        &FreeGate,
+        &mut sender,
+        false,
+    )?;
+    assert_eq!(rt; early, Pumped::Idle);
+    let due = pump(
+        &rt,
+        &desk,
+        &mut pass,
+        &mut port,
+        &mut out,
+        100,
+        &FreeGate,
+        &mut sender,
+        false,
+    )?;
+    assert_eq!(rt; due, Pumped::Packet { number: 0 });
+    let idle = pump(
+        &rt,
+        &desk,
+        &mut pass,
+        &mut port,
+        &mut out,
+        10_099,
+        &FreeGate,
+        &mut sender,
+        false,
+    )?;
+    assert_eq!(rt; idle, Pumped::Idle);
+    let lost = pump(
+        &rt,
+        &desk,
+        &mut pass,
+        &mut port,
+        &mut out,
+        10_100,
+        &FreeGate,
+        &mut sender,
+        false,
+    )?;
+    assert_eq!(rt; lost, Pumped::Packet { number: 1 });
+    assert!(rt; port.sent_at(0) == Some((DATA, FIRST_PACKET)));
+    assert!(rt; port.sent_at(1) == None);
+    assert_eq!(rt;
+        sender,
+        Sender {
+            last_cut: 10_100,
+            owed: false,
+            call: 2,
+            send_faults: 1
+        }
+    );
+    Ok(())
+}
