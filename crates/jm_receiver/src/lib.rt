@@ -18,4 +18,4 @@ mod repair;
 pub use heard::{Heard, HeardKind, HeardList};
 pub use opening::AcceptFault;
 pub use receiver::{Receiver, Took};
-pub use repair::repair;
+pub use repair::repair_state;

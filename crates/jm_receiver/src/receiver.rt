@@ -7,7 +7,7 @@ ghost use Rattle.jm_receiver.specs.Accept.{contents, repaired_by, repaired_using
 use crate::heard::{HeardList, Hearing};
 use crate::opening::{AcceptFault, Opened, open};
 use crate::place::{Uses, find_place};
-use crate::repair::repair;
+use crate::repair::repair_state;
 use jm_cmds::ReadError;
 use jm_reader::{Log, Logs};
 use jm_state::State;
@@ -49,7 +49,7 @@ impl Hearing {
         ensures { IfOk result (λ _. self.new ≡ repaired_by logs.now self.old) }
     {
         let mut repaired = self.state.copy();
-        repair(&mut repaired, logs);
+        repair_state(&mut repaired, logs);
         self.hand_on_repair(logs, &repaired, alloc)?;
         self.state = repaired;
         Ok(())

@@ -225,7 +225,7 @@ pub(crate) fn clear(s: &mut State, logs: &[Log])
 /// whole session are set; then channel by channel the program, parameters, controllers, the wheel, released and struck
 /// notes, and pressures.
 #[tactic(auto, unfolding(crate::specs::Repair::repaired))]
-pub fn repair(s: &mut State, logs: &[Log])
+pub fn repair_state(s: &mut State, logs: &[Log])
     ensures { s.new ≡ repaired s.old logs.now }
 {
     clear(s, logs);

@@ -12,7 +12,7 @@ use ch_sysex::x;
 use jm_cmds::{Channel, D7, Selection, Sent, in_order, read_command, session_history};
 use jm_journal::{plain_len, plain_write};
 use jm_reader::read_journal;
-use jm_receiver::repair;
+use jm_receiver::repair_state;
 use jm_state::State;
 use jm_wire::Octets;
 use std::alloc::Global;
@@ -84,7 +84,7 @@ fn repaired<R: Abort>(
         report.logs.keep_fresh();
     }
     let mut state = state_before(list, next);
-    repair(&mut state, report.logs.as_slice());
+    repair_state(&mut state, report.logs.as_slice());
     Ok(state)
 }
 
