@@ -58,15 +58,20 @@ used_agree checkpoint next gap tick sent h commands o messages early is agrees =
 -- ## The packet
 
 module _ (r : Received) (octets : List ℕ) (c : Contents) (packet : ℕ) (before own : List Sent) (read : opened r.ssrc octets ≡ Ok c) (says : commands_in c.items ≡ map (λ one. one.command) own) (is : IsReceived r) where
-  abbrev begins : Hearing
+  abbrev pub begins : Hearing
   begins = record { state = r.state; tick = c.tick; heard = [] }
 
-  heard_agrees : (uses : Uses) → Agrees (repaired_using uses c.logs begins).state before → Agrees (heard_in r c uses).state (before ++ own)
+  -- the state behind the packet is that behind what is used of its journal and then its own commands
+  pub heard_state : (uses : Uses) → (heard_in r c uses).state ≡ state_behind (repaired_using uses c.logs begins).state own
   unfolding sent_all
+  heard_state uses =
+      let h = repaired_using uses c.logs begins in
+      items_state h c.items ∙ ap (fold applied h.state) says ∙ commands_state h.state own
+
+  heard_agrees : (uses : Uses) → Agrees (repaired_using uses c.logs begins).state before → Agrees (heard_in r c uses).state (before ++ own)
   heard_agrees uses agrees =
       let h = repaired_using uses c.logs begins in
-      let same : (fold sent_also h c.items).state ≡ state_behind h.state own = items_state h c.items ∙ ap (fold applied h.state) says ∙ commands_state h.state own in
-      subst (λ (s : State). Agrees s (before ++ own)) (sym same) (commands_agree before own h.state (used_whole uses c.logs begins is.whole) agrees)
+      subst (λ (s : State). Agrees s (before ++ own)) (sym (heard_state uses)) (commands_agree before own h.state (used_whole uses c.logs begins is.whole) agrees)
 
   placed_taken : (place : Placed) → placed r.last c.number ≡ Ok place → place.number ≡ packet → ((last : ℕ) → r.last ≡ Some last → last + 1 + place.gap ≡ packet) →
       Agrees (repaired_using place.uses c.logs begins).state before → IsTaken r octets packet before own

@@ -30,6 +30,7 @@ use Rattle.jm_receiver.specs.declared.heard.HeardKind.TheVariants.{Repaired}
 use Rattle.jm_receiver.specs.declared.heard.Hearing.{Hearing}
 use Rattle.jm_receiver.specs.Group.{is_of, command_of, all_groups, all_channels}
 use Rattle.jm_receiver.specs.HandedOn.{handed_on_if_new, handed_on, control_handed_on, half_handed_on, reset_handed_on, resets_handed_on, message_handed_on, message_handed_on_if_counting, messages_handed_on, song_handed_on, songs_handed_on, value_or_zero, low_bank_handed_on_if_new, bank_handed_on, program_is, program_handed_on_if_new, halves_are, param_handed_on, param_handed_on_if_new, rpn_handed_on, nrpn_handed_on, selection_handed_on, selection_handed_on_after_params, kind_of, command_handed_on_if_new, log_handed_on, log_handed_on_of, group_handed_on, controls_handed_on, channel_handed_on, repair_handed_on}
+use Rattle.jm_receiver.specs.MessageLaw.{and_false}
 use Rattle.jm_receiver.specs.Order.{channel_log_is, session_log_is, high_is, session_done}
 use Rattle.jm_receiver.specs.Repair.{is_reset_log, has_reset, cleared, counts, is_ahead, with_message, messages_repaired, with_session_log, session_repaired, applied_if, high_entered, low_entered, with_channel_log, with_log_of, group_repaired, channel_repaired, repaired}
 
@@ -46,6 +47,21 @@ pub record Follows (programs : ℕ → Bool) (controls : (channel number : ℕ) 
   pub note : (channel note : ℕ) → channel < 16 → note < 128 → note_of t channel note ≡ note_of s channel note
   pub pressure : (channel : ℕ) → channel < 16 → pressure_of t channel ≡ pressure_of s channel
   pub poly : (channel note : ℕ) → channel < 16 → note < 128 → poly_of t channel note ≡ poly_of s channel note
+
+-- every whole state follows itself
+pub self_follows : (programs : ℕ → Bool) (controls : (channel number : ℕ) → Bool) (s : State) → IsState s → Follows programs controls s s
+self_follows programs controls s is = record {
+  left = is;
+  right = is;
+  song = refl;
+  sysex_count = refl;
+  program = λ channel l n. refl;
+  control = λ channel number l k n. refl;
+  wheel = λ channel l. refl;
+  note = λ channel note l k. refl;
+  pressure = λ channel l. refl;
+  poly = λ channel note l k. refl;
+}
 
 -- ## Commands
 
@@ -77,10 +93,6 @@ silent_controllers : (kind : ControlKind) → is_silent kind ≡ true → clears
 silent_controllers (numbers.DataEntry high) h = refl
 silent_controllers (numbers.Selection nrpn high) h = refl
 silent_controllers kind h = absurd (let f : false ≡ true = h in cc)
-
-and_false : (b : Bool) → (b && false) ≡ false
-and_false true = refl
-and_false false = refl
 
 cond_none : {V : Type 0} (b : Bool) → cond {A = Option (Option V)} b None None ≡ None
 cond_none true = refl
@@ -422,18 +434,7 @@ module _ (programs : ℕ → Bool) (controls : (channel number : ℕ) → Bool) 
   -- ## The session
 
   none_follows : Follows programs controls no_state no_state
-  none_follows = record {
-    left = no_state_is;
-    right = no_state_is;
-    song = refl;
-    sysex_count = refl;
-    program = λ channel l n. refl;
-    control = λ channel number l k n. refl;
-    wheel = λ channel l. refl;
-    note = λ channel note l k. refl;
-    pressure = λ channel l. refl;
-    poly = λ channel note l k. refl;
-  }
+  none_follows = self_follows programs controls no_state no_state_is
 
   reset_follows : (h : Hearing) (s : State) (log : LogKind) → Follows programs controls h.state s → Follows programs controls (reset_handed_on h log).state (cond (is_reset_log log) no_state s)
   reset_follows h s (kinds.Reset count) f = if_new h commands.SystemReset Repaired no_state f.left none_follows

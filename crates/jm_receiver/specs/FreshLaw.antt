@@ -1,5 +1,5 @@
 -- The law of repair after one lost packet, by the fresh logs alone.
-use Rattle.std.proofs.Common.{◌≡◌, ℕ, ◌+◌, ◌<◌, ◌≤◌, Bool, true, false, cond, ◌&&◌, ◌||◌, eqb, List, [], ◌∷◌, Option, Some, None, fold, refl, sym, ap, ◌∙◌, inl, inr, arith}
+use Rattle.std.proofs.Common.{◌≡◌, ℕ, ◌+◌, ◌<◌, ◌≤◌, Bool, true, false, cond, ◌&&◌, ◌||◌, eqb, List, [], ◌∷◌, Option, Some, None, fold, refl, sym, ap, ◌∙◌, ◌⊎◌, inl, inr, arith}
 use Rattle.std.specs.List.{flat_map, list_any, filter, range_with_len}
 use Rattle.std.proofs.lemmas.Bool.{cases_Bool}
 use Rattle.std.proofs.lemmas.List.Sums.{fold-append}
@@ -19,6 +19,7 @@ use Rattle.jm_state.specs.declared.state.State.{State}
 use Rattle.jm_state.specs.Parts.{no_state, song_of, sequencer_of, time_code_of, program_of, control_of, toggles_of, pedal_of, selection_of, wheel_of, note_of, pressure_of, poly_of, sysex_count_of}
 use Rattle.jm_state.specs.Apply.{sounding}
 use Rattle.jm_state.specs.Says.{said, ended}
+use Rattle.jm_state.specs.Kept.{IsState}
 use Rattle.jm_state.specs.KeptLaws.{no_state_is}
 use Rattle.jm_state.specs.Replay.{over}
 use Rattle.jm_state.specs.ReplayLaws.{state_behind, behind_is}
@@ -72,7 +73,7 @@ module _ {V : Type 0} (channel : ℕ) (groups : Group → Bool) (part : State �
   last_silent : (group : Group) → groups group ≡ false → last_say group ≡ None
   last_silent group none = group_silent channel groups part says is_part group none (group_logs group channel last (last + 1) tick sent) (group_tagged group channel last (last + 1) tick sent)
 
-  exact_same : ((group : Group) → groups group ≡ true → is_exact group ≡ true) → (group : Group) → groups group ≡ true → fresh_say group ≡ last_say group
+  pub exact_same : ((group : Group) → groups group ≡ true → is_exact group ≡ true) → (group : Group) → groups group ≡ true → fresh_say group ≡ last_say group
   exact_same exact group g = ap (final (log_says says)) (group_fresh checkpoint last sent early group channel tick (exact group g))
 
   fresh_heard : channel < 16 → final (log_says says) (in_order channel (fresh_of (journal_logs checkpoint (last + 1) tick sent))) ≡ final fresh_say all_groups
@@ -92,20 +93,23 @@ module _ {V : Type 0} (channel : ℕ) (groups : Group → Bool) (part : State �
       ∙ sym (final-flat_map (log_says says) (λ group. group_logs group channel last (last + 1) tick sent) all_groups)
       ∙ sym (ap (final (log_says says)) (in_order_of_journal channel last (last + 1) tick sent l))
 
-  -- where the groups' fresh logs say what they are to
+  -- where the groups' fresh logs say what they are to, they do to any state what the journal does that has the last packet as its checkpoint
+  pub part_as_last : channel < 16 → ((group : Group) → groups group ≡ true → fresh_say group ≡ last_say group) → (s : State) → IsState s →
+      part (repaired s (fresh_of (journal_logs checkpoint (last + 1) tick sent))) ≡ part (repaired s (journal_logs last (last + 1) tick sent))
+  part_as_last l same s is =
+      let fresh = fresh_of (journal_logs checkpoint (last + 1) tick sent) in
+      let others = journal_logs last (last + 1) tick sent in
+      part_repaired channel groups part says is_part s fresh l is
+      ∙ ap (λ (a : Option (Option V)). said (over a (ended (has_reset fresh))) (part s)) (heard_same l same)
+      ∙ ap (λ b. said (over (final (log_says says) (in_order channel others)) (ended b)) (part s)) (reset_fresh checkpoint last sent early tick)
+      ∙ sym (part_repaired channel groups part says is_part s others l is)
+
+  -- and so repair the state before that packet
   part_same : channel < 16 → ((group : Group) → groups group ≡ true → fresh_say group ≡ last_say group) → Repairs part → InOrder packet_of sent →
       part (repaired (state_behind no_state (below packet_of last sent)) (fresh_of (journal_logs checkpoint (last + 1) tick sent))) ≡ part (state_behind no_state (below packet_of (last + 1) sent))
   part_same l same law o =
       let before = below packet_of last sent in
-      let old = state_behind no_state before in
-      let is = behind_is no_state before no_state_is in
-      let fresh = fresh_of (journal_logs checkpoint (last + 1) tick sent) in
-      let others = journal_logs last (last + 1) tick sent in
-      part_repaired channel groups part says is_part old fresh l is
-      ∙ ap (λ (a : Option (Option V)). said (over a (ended (has_reset fresh))) (part old)) (heard_same l same)
-      ∙ ap (λ b. said (over (final (log_says says) (in_order channel others)) (ended b)) (part old)) (reset_fresh checkpoint last sent early tick)
-      ∙ sym (part_repaired channel groups part says is_part old others l is)
-      ∙ law last last (last + 1) tick sent o (omega arith) (omega arith)
+      part_as_last l same (state_behind no_state before) (behind_is no_state before no_state_is) ∙ law last last (last + 1) tick sent o (omega arith) (omega arith)
 
 part_fresh : {V : Type 0} (channel : ℕ) (groups : Group → Bool) (part : State → Option V) (says : LogKind → Option (Option V)) → IsPart channel groups part says →
     ((group : Group) → groups group ≡ true → is_exact group ≡ true) → channel < 16 → Repairs part → FreshRepairs part
@@ -153,7 +157,7 @@ time_code_by_fresh checkpoint last tick sent h o early =
 -- ## Each part of a channel
 
 -- all groups but those of parameters and of released notes
-exact_of : (groups : Group → Bool) → groups Params ≡ false → groups Released ≡ false → (group : Group) → groups group ≡ true → is_exact group ≡ true
+pub exact_of : (groups : Group → Bool) → groups Params ≡ false → groups Released ≡ false → (group : Group) → groups group ≡ true → is_exact group ≡ true
 exact_of groups p r Params h = absurd (let f : true ≡ false = sym h ∙ p in cc)
 exact_of groups p r Released h = absurd (let f : true ≡ false = sym h ∙ r in cc)
 exact_of groups p r group h = refl
@@ -333,9 +337,9 @@ module _ (channel note : ℕ) (l : channel < 16) (m : note < 128) (checkpoint la
   abbrev old : State
   old = state_behind no_state (below packet_of last sent)
 
-  ends_by_fresh : (is_fresh_off && is_off) ≡ true → note_of (repaired old (fresh_of (journal_logs checkpoint (last + 1) tick sent))) channel note ≡ None
+  ends_by_fresh : (s : State) → IsState s → (is_fresh_off && is_off) ≡ true → note_of (repaired s (fresh_of (journal_logs checkpoint (last + 1) tick sent))) channel note ≡ None
   unfolding all_groups
-  ends_by_fresh h =
+  ends_by_fresh s is h =
       let fresh = fresh_of (journal_logs checkpoint (last + 1) tick sent) in
       let says = note_log_says channel note in
       let is_part = note_is channel note l m in
@@ -352,8 +356,8 @@ module _ (channel note : ℕ) (l : channel < 16) (m : note < 128) (checkpoint la
       none_kept (log_says says) (λ log. log.fresh) (struck_logs channel checkpoint (last + 1) tick sent) (struck_none (parts h)) in
       let off : note_heard (fresh_of (released_logs channel checkpoint (last + 1) tick sent)) ≡ Some None = off_heard ∙ ap (λ b. ended b) h in
       let dropped : final heard (filter note_groups all_groups) ≡ Some None = rw (struck, off) refl in
-      part_repaired channel note_groups part says is_part old fresh l (behind_is no_state (below packet_of last sent) no_state_is)
-      ∙ ap (λ (a : Option (Option ℕ)). said (over a (ended (has_reset fresh))) (part old))
+      part_repaired channel note_groups part says is_part s fresh l is
+      ∙ ap (λ (a : Option (Option ℕ)). said (over a (ended (has_reset fresh))) (part s))
       (fresh_heard channel note_groups part says is_part checkpoint last tick sent early l ∙ alone ∙ dropped)
     where
       parts : (is_fresh_off && is_off) ≡ true → is_off ≡ true
@@ -382,13 +386,30 @@ module _ (channel note : ℕ) (l : channel < 16) (m : note < 128) (checkpoint la
   one_note : note_of (repaired old (fresh_of (journal_logs checkpoint (last + 1) tick sent))) channel note ≡ note_of (state_behind no_state (below packet_of (last + 1) sent)) channel note
   one_note =
       elim (cases_Bool (is_fresh_off && is_off)) [
-        | inl t ↦ ends_by_fresh t ∙ sym (ends_meant (second is_fresh_off is_off t))
+        | inl t ↦ ends_by_fresh old (behind_is no_state (below packet_of last sent) no_state_is) t ∙ sym (ends_meant (second is_fresh_off is_off t))
         | inr f ↦ part_same channel note_groups (λ s. note_of s channel note) (note_log_says channel note) (note_is channel note l m) checkpoint last tick sent early l (without f) (note_repaired channel note l m) o
       ]
     where
       second : (a b : Bool) → (a && b) ≡ true → b ≡ true
       second true b h = h
       second false b h = cc
+
+-- On any state the fresh logs do to a note what the logs of a journal do that has the last packet as its checkpoint, or leave it as all
+-- commands do.
+pub note_as_last : (channel note : ℕ) (l : channel < 16) (m : note < 128) (checkpoint last tick : ℕ) (sent : List Sent) → InOrder packet_of sent → checkpoint ≤ last → (s : State) → IsState s →
+    (note_of (repaired s (fresh_of (journal_logs checkpoint (last + 1) tick sent))) channel note ≡ note_of (repaired s (journal_logs last (last + 1) tick sent)) channel note)
+    ⊎ (note_of (repaired s (fresh_of (journal_logs checkpoint (last + 1) tick sent))) channel note ≡ note_of (state_behind no_state (below packet_of (last + 1) sent)) channel note)
+note_as_last channel note l m checkpoint last tick sent o early s is =
+    let fresh_off = is_fresh_off channel note l m checkpoint last tick sent o early in
+    let off = is_off channel note l m checkpoint last tick sent o early in
+    elim (cases_Bool (fresh_off && off)) [
+      | inl t ↦ inr (ends_by_fresh channel note l m checkpoint last tick sent o early s is t ∙ sym (ends_meant channel note l m checkpoint last tick sent o early (second fresh_off off t)))
+      | inr f ↦ inl (part_as_last channel note_groups (λ s. note_of s channel note) (note_log_says channel note) (note_is channel note l m) checkpoint last tick sent early l (without channel note l m checkpoint last tick sent o early f) s is)
+    ]
+  where
+    second : (a b : Bool) → (a && b) ≡ true → b ≡ true
+    second true b h = h
+    second false b h = cc
 
 pub note_by_fresh : (channel note : ℕ) → channel < 16 → note < 128 → FreshRepairs (λ s. note_of s channel note)
 note_by_fresh channel note l m checkpoint last tick sent o early = one_note channel note l m checkpoint last tick sent o early

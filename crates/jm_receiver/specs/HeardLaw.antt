@@ -6,7 +6,7 @@ use Rattle.jm_state.specs.SettingLaws.{Touched, nothing, SameBut}
 use Rattle.jm_reader.specs.declared.logs.Log.{Log}
 use Rattle.jm_receiver.specs.declared.heard.Heard.{Heard}
 use Rattle.jm_receiver.specs.declared.heard.Hearing.{Hearing}
-use Rattle.jm_receiver.specs.Follows.{Follows, AreKept, all_programs, bank_controls, repair_follows}
+use Rattle.jm_receiver.specs.Follows.{Follows, self_follows, AreKept, all_programs, bank_controls, repair_follows}
 use Rattle.jm_receiver.specs.HandedOn.{repair_handed_on}
 use Rattle.jm_receiver.specs.Listened.{listened, repair_listened}
 use Rattle.jm_receiver.specs.Repair.{repaired}
@@ -48,23 +48,9 @@ followed t s f = record {
   poly = λ channel note l k n. f.poly channel note l k;
 }
 
-self_follows : (s : State) → IsState s → Follows all_programs bank_controls s s
-self_follows s is = record {
-  left = is;
-  right = is;
-  song = refl;
-  sysex_count = refl;
-  program = λ channel l n. refl;
-  control = λ channel number l k n. refl;
-  wheel = λ channel l. refl;
-  note = λ channel note l k. refl;
-  pressure = λ channel l. refl;
-  poly = λ channel note l k. refl;
-}
-
 pub most_heard : MostPartsAreHeard
 most_heard s logs tick is kept =
     let whole = repaired s logs in
     let h = listening s tick in
     subst (λ (t : State). SameBut unheard whole t) (repair_listened s logs whole h refl)
-    (followed (repair_handed_on logs whole h).state whole (repair_follows logs whole h s kept (self_follows s is)))
+    (followed (repair_handed_on logs whole h).state whole (repair_follows logs whole h s kept (self_follows all_programs bank_controls s is)))

@@ -36,19 +36,19 @@ use Rattle.jm_receiver.specs.declared.receiver.Took.{Took}
 use Rattle.jm_receiver.specs.Accept.{Contents, opened, placed, used_after, repaired_by, repaired_using, heard_in, took_at, accepted}
 use Rattle.jm_receiver.specs.Agreement.{Agrees}
 use Rattle.jm_receiver.specs.BankHeard.{no_programs, no_controls}
-use Rattle.jm_receiver.specs.Follows.{Follows}
+use Rattle.jm_receiver.specs.Follows.{Follows, self_follows}
 use Rattle.jm_receiver.specs.FreshLogs.{fresh_of}
 use Rattle.jm_receiver.specs.HandedOn.{repair_handed_on}
 use Rattle.jm_receiver.specs.Heard.{what_heard, sent_also, sent_all}
 use Rattle.jm_receiver.specs.HeardLaw.{listening}
-use Rattle.jm_receiver.specs.HeardStates.{untold, all_followed, self_followed, journal_follows, fresh_follows}
+use Rattle.jm_receiver.specs.HeardStates.{untold, all_followed, journal_follows, fresh_follows}
 use Rattle.jm_receiver.specs.InStep.{first_lacking, CanTell, IsNext, IsOfStream, commands_in}
 use Rattle.jm_receiver.specs.SectionLaws.{ahead_placed, none_repaired}
 use Rattle.jm_receiver.specs.Listened.{listened, repair_listened}
 use Rattle.jm_receiver.specs.Needless.{none_handed_on}
 use Rattle.jm_receiver.specs.Receiver.{Received}
 use Rattle.jm_receiver.specs.Repair.{repaired}
-use Rattle.jm_receiver.specs.Whole.{IsWhole, IsReceived}
+use Rattle.jm_receiver.specs.Whole.{IsWhole, IsReceived, ok_value}
 
 -- What is heard of a packet of the stream that is taken, each command played in order into the old state, gives the new one, but for the
 -- parts that aren't told: under the premises of `ReceiversComeInStep`, whatever was lost before the packet.
@@ -105,7 +105,7 @@ used_told : (checkpoint next gap tick time : ℕ) (sent : List Sent) (s : State)
     IsWhole s → Agrees s (below packet_of next sent) → Told s (repaired_using (used_after gap) (journal_logs checkpoint (next + gap) tick sent) (listening s time))
 used_told checkpoint next gap tick time sent s commands o messages early is agrees =
     elim (cases_Bool (eqb gap 0)) [
-      | inl t ↦ rw t (self_followed s is.state)
+      | inl t ↦ rw t (self_follows no_programs no_controls s is.state)
       | inr f ↦ elim (cases_Bool (eqb gap 1)) [
         | inl u ↦
             let one : gap ≡ 1 = eqb-true gap 1 u in
@@ -119,16 +119,13 @@ used_told checkpoint next gap tick time sent s commands o messages early is agre
 
 -- ## The packet
 
-ok_same : {A E : Type 0} → (a b : A) → ◌≡◌ {A = Result A E} (Ok a) (Ok b) → a ≡ b
-ok_same a b e = cc
-
 placed_told : (r : Received) (octets : List ℕ) (c : Contents) (place : Placed) (after : Received) (took : Took) → opened r.ssrc octets ≡ Ok c → placed r.last c.number ≡ Ok place → accepted r octets ≡ Ok (after, took) →
     Told r.state (repaired_using place.uses c.logs (listening r.state c.tick)) → SameBut untold after.state (listened r.state took.heard)
 unfolding accepted sent_all
 placed_told r octets c place after took read found e f =
     let own : Received × Took = took_at place (heard_in r c place.uses) r in
     let taken : ◌≡◌ {A = Result (Received × Took) AcceptFault} (Ok own) (Ok (after, took)) = rw (read, found) at e in
-    let same : own ≡ (after, took) = ok_same own (after, took) taken in
+    let same : own ≡ (after, took) = ok_value own (after, took) taken in
     let h = fold sent_also (repaired_using place.uses c.logs (listening r.state c.tick)) c.items in
     let all : SameBut untold h.state (listened r.state h.heard) = all_followed (listened r.state h.heard) h.state (items_told r.state (repaired_using place.uses c.logs (listening r.state c.tick)) c.items f) in
     subst (λ (p : Received × Took). SameBut untold p.0.state (listened r.state p.1.heard)) same all
@@ -142,7 +139,7 @@ packets_heard r octets c checkpoint packet tick sent own after took read stands 
         placed_told r octets c (record { number = c.number; gap = 0; uses = All }) after took read (rw none refl) e
         (elim (cases_Bool (eqb packet 0)) [
           | inl t ↦
-              rw (stands.first (eqb-true packet 0 t), none_repaired r.state, none_handed_on r.state (listening r.state c.tick)) (self_followed r.state is.whole.state)
+              rw (stands.first (eqb-true packet 0 t), none_repaired r.state, none_handed_on r.state (listening r.state c.tick)) (self_follows no_programs no_controls r.state is.whole.state)
           | inr f ↦
               let some : 1 ≤ packet = grind (arith, nat_tests, f) in
               rw (stands.later some) (by_told r.state c.tick (journal_logs checkpoint packet tick sent) (journal_follows checkpoint 0 packet tick c.tick sent r.state commands o messages early (omega arith) is.whole agrees))

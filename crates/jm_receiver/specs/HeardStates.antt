@@ -36,7 +36,7 @@ use Rattle.jm_receiver.specs.Agreement.{Agrees, states_repaired}
 use Rattle.jm_receiver.specs.BankHeard.{no_programs, no_controls, IsBefore, channel_heard}
 use Rattle.jm_receiver.specs.Chapters.{is_session, channels_of_channels, group_logs, group_of_journal}
 use Rattle.jm_receiver.specs.ControlLaw.{control_is, control_log_says, control_groups}
-use Rattle.jm_receiver.specs.Follows.{Follows, AreKept, is_kept_log, all_programs, session_follows}
+use Rattle.jm_receiver.specs.Follows.{Follows, self_follows, AreKept, is_kept_log, all_programs, session_follows}
 use Rattle.jm_receiver.specs.FreshAgreement.{states_by_fresh}
 use Rattle.jm_receiver.specs.FreshLogs.{fresh_of, group_fresh, reset_fresh}
 use Rattle.jm_receiver.specs.Group.{is_of, all_channels}
@@ -116,20 +116,6 @@ journal_kept checkpoint packet tick sent =
 
 -- ## The channels, one after the other
 
-pub self_followed : (s : State) → IsState s → Follows no_programs no_controls s s
-self_followed s is = record {
-  left = is;
-  right = is;
-  song = refl;
-  sysex_count = refl;
-  program = λ channel l n. refl;
-  control = λ channel number l k n. refl;
-  wheel = λ channel l. refl;
-  note = λ channel note l k. refl;
-  pressure = λ channel l. refl;
-  poly = λ channel note l k. refl;
-}
-
 left_elsewhere : {V : Type 0} (channel other : ℕ) (groups : Group → Bool) (part : State → Option V) (says : LogKind → Option (Option V)) → IsPart channel groups part says → (logs : List Log) (u : State) → IsState u → eqb channel other ≡ false →
     part (channel_repaired logs u other) ≡ part u
 left_elsewhere channel other groups part says is_part logs u is apart =
@@ -173,7 +159,7 @@ module _ (checkpoint next packet : ℕ) (sent : List Sent) (s : State) (logs : L
   all_heard time =
       let h = listening s time in
       channels_heard 0 16 (songs_handed_on logs (messages_handed_on logs (resets_handed_on logs h))) (session_done s logs) (omega arith) session_untouched
-      (session_follows no_programs no_controls logs h s kept (self_followed s is))
+      (session_follows no_programs no_controls logs h s kept (self_follows no_programs no_controls s is))
 
 pub all_followed : (t s : State) → Follows no_programs no_controls t s → SameBut untold s t
 all_followed t s f = record {

@@ -48,3 +48,5 @@ pub mod BankHeard
 pub mod HeardStates
 pub mod SectionLaws
 pub mod HeardPackets
+pub mod StaysInStep
+pub mod Late

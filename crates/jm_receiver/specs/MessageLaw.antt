@@ -204,7 +204,7 @@ any-counted kept x xs =
     let all : list_any (counted_ends (kept, x)) (scanned count_step (count_step kept x) xs) ≡ list_any (sysex_ends x) xs = any-scanned count_step (sysex_ends x) (count_step kept x) xs in
     all ∙ any-ends x xs
 
-and_false : (b : Bool) → (b && false) ≡ false
+pub and_false : (b : Bool) → (b && false) ≡ false
 and_false true = refl
 and_false false = refl
 

@@ -25,6 +25,7 @@ use Rattle.jm_receiver.specs.Heard.{what_heard, sent_also, sent_all}
 use Rattle.jm_receiver.specs.InStep.{commands_in}
 use Rattle.jm_receiver.specs.SectionLaws.{items_state, none_repaired}
 use Rattle.jm_receiver.specs.Receiver.{Received}
+use Rattle.jm_receiver.specs.Whole.{ok_value}
 
 -- a whole command, heard at this time
 abbrev pub command_held : (tick : ℕ) → What → List Heard
@@ -127,12 +128,9 @@ just_held r c place none =
 abbrev pub UsedNone : Option ℕ → Contents → Took → Type 0
 UsedNone last c took = (place : Placed) → placed last c.number ≡ Ok place → place.gap ≡ took.gap → used_of place.uses c.logs ≡ []
 
-ok_same : {A E : Type 0} → (a b : A) → ◌≡◌ {A = Result A E} (Ok a) (Ok b) → a ≡ b
-ok_same a b e = cc
-
 taken_just : (r : Received) (c : Contents) (place : Placed) (after : Received) (took : Took) → (place.gap ≡ took.gap → used_of place.uses c.logs ≡ []) → ◌≡◌ {A = Result (Received × Took) AcceptFault} (Ok (took_at place (heard_in r c place.uses) r)) (Ok (after, took)) → HearsJust r c after took
 taken_just r c place after took none e =
-    let same : took_at place (heard_in r c place.uses) r ≡ (after, took) = ok_same (took_at place (heard_in r c place.uses) r) (after, took) e in
+    let same : took_at place (heard_in r c place.uses) r ≡ (after, took) = ok_value (took_at place (heard_in r c place.uses) r) (after, took) e in
     let first : (took_at place (heard_in r c place.uses) r).0 ≡ after = ap (λ (p : Received × Took). p.0) same in
     let second : (took_at place (heard_in r c place.uses) r).1 ≡ took = ap (λ (p : Received × Took). p.1) same in
     let gap : place.gap ≡ took.gap = ap (λ (t : Took). t.gap) second in

@@ -296,7 +296,7 @@ said_so channel note command = ended_so (ends_notes channel command)
     ended_so false = refl
 
 -- The logs of a journal say of a note what the commands from the checkpoint on say.
-note_heard : (channel note : ℕ) → channel < 16 → note < 128 → (checkpoint packet tick : ℕ) (sent : List Sent) → InOrder packet_of sent →
+pub note_heard : (channel note : ℕ) → channel < 16 → note < 128 → (checkpoint packet tick : ℕ) (sent : List Sent) → InOrder packet_of sent →
     journal_says (note_log_says channel note) channel checkpoint packet tick sent ≡ final (place_says (note_says channel note)) (seen_since checkpoint packet sent)
 unfolding all_groups
 note_heard channel note l m checkpoint packet tick sent o =

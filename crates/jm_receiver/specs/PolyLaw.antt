@@ -152,7 +152,7 @@ said_so channel note command = ended_so (ends_controllers channel command)
     ended_so false = refl
 
 -- The logs of a journal say of the pressure on a key what the commands from the checkpoint on say.
-poly_heard : (channel note : ℕ) → channel < 16 → note < 128 → (checkpoint packet tick : ℕ) (sent : List Sent) → InOrder packet_of sent →
+pub poly_heard : (channel note : ℕ) → channel < 16 → note < 128 → (checkpoint packet tick : ℕ) (sent : List Sent) → InOrder packet_of sent →
     journal_says (poly_log_says channel note) channel checkpoint packet tick sent ≡ final (place_says (poly_says channel note)) (seen_since checkpoint packet sent)
 unfolding all_groups
 poly_heard channel note l m checkpoint packet tick sent o =

@@ -174,7 +174,7 @@ said_so channel command = by_end (ends_either channel command)
     by_end false = refl
 
 -- The logs of a journal say of the pressure what the commands from the checkpoint on say.
-pressure_heard : (channel : ℕ) → channel < 16 → (checkpoint packet tick : ℕ) (sent : List Sent) → InOrder packet_of sent →
+pub pressure_heard : (channel : ℕ) → channel < 16 → (checkpoint packet tick : ℕ) (sent : List Sent) → InOrder packet_of sent →
     journal_says (pressure_log_says channel) channel checkpoint packet tick sent ≡ final (place_says (pressure_says channel)) (seen_since checkpoint packet sent)
 unfolding all_groups
 pressure_heard channel l checkpoint packet tick sent o =

@@ -164,7 +164,7 @@ said_so channel command = by_end (ends_controllers channel command)
     by_end false = refl
 
 -- The logs of a journal say of the wheel what the commands from the checkpoint on say.
-wheel_heard : (channel : ℕ) → channel < 16 → (checkpoint packet tick : ℕ) (sent : List Sent) → InOrder packet_of sent →
+pub wheel_heard : (channel : ℕ) → channel < 16 → (checkpoint packet tick : ℕ) (sent : List Sent) → InOrder packet_of sent →
     journal_says (wheel_log_says channel) channel checkpoint packet tick sent ≡ final (place_says (wheel_says channel)) (seen_since checkpoint packet sent)
 unfolding all_groups
 wheel_heard channel l checkpoint packet tick sent o =

@@ -311,7 +311,7 @@ hearing_whole r c uses is =
     sent_whole (repaired_using uses c.logs (record { state = r.state; tick = c.tick; heard = [] })) c.items
     (used_whole uses c.logs (record { state = r.state; tick = c.tick; heard = [] }) is)
 
-ok_value : {A E : Type 0} → (a b : A) → ◌≡◌ {A = Result A E} (Ok a) (Ok b) → a ≡ b
+pub ok_value : {A E : Type 0} → (a b : A) → ◌≡◌ {A = Result A E} (Ok a) (Ok b) → a ≡ b
 ok_value a b e = cc
 
 taken_whole : (r : Received) (c : Contents) (place : Placed) (after : Received) (took : Took) → IsReceived r → ◌≡◌ {A = Result (Received × Took) AcceptFault} (Ok (took_at place (heard_in r c place.uses) r)) (Ok (after, took)) → IsReceived after

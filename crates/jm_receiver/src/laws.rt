@@ -9,6 +9,7 @@ ghost use Rattle.jm_receiver.specs.Agreement.{StatesAreRepaired};
 ghost use Rattle.jm_receiver.specs.KeptAgreement.{InStepAgain};
 ghost use Rattle.jm_receiver.specs.FreshAgreement.{FreshLogsRepairStates, InStepByFresh};
 ghost use Rattle.jm_receiver.specs.InStep.{ReceiversComeInStep};
+ghost use Rattle.jm_receiver.specs.Late.{LateJoinersHaveValues};
 ghost use Rattle.jm_receiver.specs.Needless.{NothingNeedlessIsHeard};
 ghost use Rattle.jm_receiver.specs.Unfresh.{NothingNeedlessBehindAnEmptyPacket};
 ghost use Rattle.jm_receiver.specs.HeardLaw.{MostPartsAreHeard};
@@ -179,4 +180,12 @@ pub fn states_are_heard_by_fresh_logs()
 /// of `receivers_come_in_step`.
 pub fn packets_are_heard()
     ensures { PacketsAreHeard }
+{}
+
+/// A late joiner, whose first packet needn't be the session's, has after each packet that it takes, of the session's state, each value that a
+/// command of the packets from that first packet's checkpoint on set or dropped: program numbers, controls, wheels, sounding notes with
+/// their velocities, and pressures. Each later packet is 1 to 32,767 ahead of the last one that it took, and its checkpoint isn't
+/// later than the first packet that it lacks.
+pub fn late_joiners_have_values()
+    ensures { LateJoinersHaveValues }
 {}

@@ -3,6 +3,7 @@
 ghost use Rattle.std.specs.Prelude.{◌≡◌, None, IfOk, OnErr};
 ghost use Rattle.jm_state.specs.Parts.{no_state};
 ghost use Rattle.jm_receiver.specs.Accept.{contents, repaired_by, repaired_using, heard_in, accepted, Accepts};
+ghost use Rattle.jm_receiver.specs.StaysInStep.{StaysInStep};
 
 use crate::heard::{HeardList, Hearing};
 use crate::opening::{AcceptFault, Opened, open};
@@ -118,19 +119,9 @@ impl Receiver {
         Ok(hearing)
     }
 
-    /// Takes a packet (RFC 6295, sections 4 and 5).
-    ///
-    /// The first packet that is taken has the number of its 16 bits, and all logs of its journal repair the state. A later one
-    /// is 1 to 32,767 ahead of the last: the number grows by that, modulo 2^64. Where no packet was missed between them
-    /// the journal isn't used; where one was, the state is repaired by the logs of what came in it, and else by all logs. Then
-    /// the whole commands of the section are applied in order.
-    ///
-    /// Refused, in this order: `Packet` for the header; `OtherSsrc` where the packet is of another stream; `Packet` for the
-    /// section; `Journal` where the journal isn't one, also where it isn't used; `Older` where the low 16 bits of the number are
-    /// 0 or at least 32,768 ahead of those of the last packet. `Memory` is answered where memory is refused. After a refusal
-    /// the receiver is as it was.
+    /// Takes a packet, or says why not.
     #[tactic(auto, unfolding(crate::specs::Accept::accepted))]
-    pub fn accept(&mut self, packet: &[u8]) -> Result<Took, ReadError<AcceptFault>>
+    fn take(&mut self, packet: &[u8]) -> Result<Took, ReadError<AcceptFault>>
         ensures accepts { Accepts result self.new (accepted self.old packet.now) }
         ensures unchanged { OnErr result (self.new ≡ self.old) }
     {
@@ -147,5 +138,28 @@ impl Receiver {
             gap: place.gap,
             heard: hearing.heard,
         })
+    }
+
+    /// Takes a packet (RFC 6295, sections 4 and 5).
+    ///
+    /// The first packet that is taken has the number of its 16 bits, and all logs of its journal repair the state. A later one
+    /// is 1 to 32,767 ahead of the last: the number grows by that, modulo 2^64. Where no packet was missed between them
+    /// the journal isn't used; where one was, the state is repaired by the logs of what came in it, and else by all logs. Then
+    /// the whole commands of the section are applied in order.
+    ///
+    /// Refused, in this order: `Packet` for the header; `OtherSsrc` where the packet is of another stream; `Packet` for the
+    /// section; `Journal` where the journal isn't one, also where it isn't used; `Older` where the low 16 bits of the number are
+    /// 0 or at least 32,768 ahead of those of the last packet. `Memory` is answered where memory is refused. After a refusal
+    /// the receiver is as it was.
+    ///
+    /// A receiver that is in step with its session, and takes a packet of it, is in step again, whatever was lost between: where the packet is 1
+    /// to 32,767 ahead of the last one, and its checkpoint isn't later than the first packet that the receiver lacks; as the first one, below
+    /// 65,536, with the checkpoint 0 or none. Such a packet isn't refused, but for want of memory.
+    pub fn accept(&mut self, packet: &[u8]) -> Result<Took, ReadError<AcceptFault>>
+        ensures accepts { Accepts result self.new (accepted self.old packet.now) }
+        ensures unchanged { OnErr result (self.new ≡ self.old) }
+        ensures in_step { StaysInStep self.old packet.now result self.new }
+    {
+        self.take(packet)
     }
 }
