@@ -14,14 +14,12 @@ use jm_book::{Book, Step};
 use jm_turn::Turn;
 use std::alloc::{AllocError, Global};
 use std::marker::Model;
-use std::snapshot::Snapshot;
 
 /// A session that threads share by turns. Contracts see which table it is, and the book that it was opened with.
 #[derive(Drop)]
 pub struct Desk {
     pub(crate) turn: Turn<Held>,
     ssrc: u32,
-    first: Snapshot<Held>,
 }
 
 impl Model for Desk {
@@ -30,9 +28,9 @@ impl Model for Desk {
 
     ghost Value = { Shared };
 
-    ghost view = { λ d. record { table = d.turn.table.shared.table_id; first = d.first.value } };
+    ghost view = { λ d. record { table = d.turn.table.shared.table_id; first = d.turn.table.shared.key.value } };
 
-    ghost invariant = { λ d. d.ssrc ≡ d.first.value.book.config.ssrc };
+    ghost invariant = { λ d. d.ssrc ≡ d.turn.table.shared.key.value.book.config.ssrc };
 }
 
 impl Desk {
@@ -46,9 +44,8 @@ impl Desk {
     {
         let ssrc = book.ssrc();
         let held = Held { book };
-        let first = Snapshot::of(&held);
         let (turn, pass) = Turn::new(held, alloc)?;
-        Ok((Desk { turn, ssrc, first }, Pass { pass }))
+        Ok((Desk { turn, ssrc }, Pass { pass }))
     }
 
     /// The synchronization source of the session's stream. It doesn't wait.
@@ -81,11 +78,7 @@ impl Desk {
         ensures accounts { Accounts pass.view }
         ensures once { StandsOnce pass.view }
     {
-        let Desk {
-            turn,
-            ssrc: _,
-            first: _,
-        } = self;
+        let Desk { turn, ssrc: _ } = self;
         let Pass { pass } = pass;
         let Held { book } = turn.close(pass);
         book.finish()

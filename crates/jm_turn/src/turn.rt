@@ -37,6 +37,7 @@ impl<T: Told> Turn<T> {
         requires { T.stands value value [] }
         ensures own { IfOk result (λ t. t.1.table ≡ t.0.table.shared.table_id) }
         ensures view { IfOk result (λ t. t.1.view ≡ newcomer value) }
+        ensures first { IfOk result (λ t. t.0.table.shared.key.value ≡ value) }
     {
         let first = Snapshot::of(&value);
         let mut slots = Vec::new(alloc);
