@@ -1,7 +1,7 @@
 -- Receivers come in step again.
-use Rattle.std.proofs.Common.{◌≡◌, ℕ, ◌+◌, ◌-◌, ◌%◌, ◌^◌, ◌<◌, ◌≤◌, false, eqb, leb, List, [], ◌∷◌, ◌++◌, Option, Some, None, map, fold, refl, sym, ap, subst, ◌∙◌, inl, inr, arith}
+use Rattle.std.proofs.Common.{◌≡◌, ℕ, ◌+◌, ◌-◌, ◌^◌, ◌<◌, ◌≤◌, eqb, List, [], ◌∷◌, ◌++◌, Option, Some, None, map, fold, refl, sym, ap, subst, ◌∙◌, inl, inr, arith}
 use Rattle.std.specs.Prelude.{Ok}
-use Rattle.std.proofs.lemmas.Bool.{cases_Bool, eqb-true, lt-leb}
+use Rattle.std.proofs.lemmas.Bool.{cases_Bool, eqb-true}
 use Rattle.std.proofs.lemmas.Bool.Decides.{nat_tests}
 use Rattle.jm_cmds.specs.declared.history.Sent.{Sent}
 use Rattle.jm_cmds.specs.History.{below, InOrder}
@@ -18,7 +18,7 @@ use Rattle.jm_receiver.specs.declared.place.Uses.{Uses}
 use Rattle.jm_receiver.specs.declared.place.Uses.TheVariants.{All}
 use Rattle.jm_receiver.specs.Receiver.{Received}
 use Rattle.jm_receiver.specs.Repair.{repaired}
-use Rattle.jm_receiver.specs.Heard.{sent_also, sent_all}
+use Rattle.jm_receiver.specs.Heard.{sent_all}
 use Rattle.jm_receiver.specs.Accept.{Contents, opened, placed, used_after, repaired_using, heard_in, took_at, accepted}
 use Rattle.jm_receiver.specs.Whole.{IsWhole, IsReceived, used_whole}
 use Rattle.jm_receiver.specs.Agreement.{Agrees, states_repaired}

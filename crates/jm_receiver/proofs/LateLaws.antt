@@ -1,5 +1,5 @@
 -- Late joiners have what was told since the checkpoint of their first packet.
-use Rattle.std.proofs.Common.{◌≡◌, ℕ, ◌+◌, ◌-◌, ◌*◌, ◌/◌, ◌%◌, ◌^◌, ◌<◌, ◌≤◌, false, eqb, ltb, List, [], ◌++◌, Option, Some, None, refl, sym, ap, subst, ◌∙◌, inl, inr, arith}
+use Rattle.std.proofs.Common.{◌≡◌, ℕ, ◌+◌, ◌-◌, ◌*◌, ◌/◌, ◌%◌, ◌^◌, ◌<◌, ◌≤◌, false, eqb, ltb, List, [], None, refl, sym, ap, subst, ◌∙◌, inl, inr, arith}
 use Rattle.std.specs.Prelude.{Ok}
 use Rattle.std.proofs.lemmas.Bool.{cases_Bool, eqb-true, le-ltb}
 use Rattle.std.proofs.lemmas.Bool.Decides.{nat_tests}
@@ -17,9 +17,8 @@ use Rattle.jm_receiver.specs.declared.place.Placed.{Placed}
 use Rattle.jm_receiver.specs.declared.place.Uses.TheVariants.{All}
 use Rattle.jm_receiver.specs.Receiver.{Received}
 use Rattle.jm_receiver.specs.Repair.{repaired}
-use Rattle.jm_receiver.specs.Accept.{Contents, opened, placed, used_after, repaired_using, heard_in, took_at, accepted}
+use Rattle.jm_receiver.specs.Accept.{placed, used_after, repaired_using, heard_in, took_at, accepted}
 use Rattle.jm_receiver.specs.FreshLogs.{fresh_of}
-use Rattle.jm_receiver.specs.InStep.{IsOfStream}
 use Rattle.jm_receiver.specs.Late.{HasValues, IsLate, IsTakenLate, LateJoinersHaveValues}
 use Rattle.jm_receiver.specs.Order.{all_of}
 use Rattle.jm_receiver.specs.SectionLaws.{none_repaired, ahead_placed}

@@ -1,5 +1,5 @@
 -- The values of a late joiner: which parts they are, and what repair and commands make of them.
-use Rattle.std.proofs.Common.{◌≡◌, ℕ, ◌+◌, ◌<◌, ◌≤◌, Bool, true, false, cond, eqb, leb, List, [], ◌∷◌, ◌++◌, Option, Some, None, refl, sym, ap, subst, ◌∙◌, ◌⊎◌, inl, inr, arith}
+use Rattle.std.proofs.Common.{◌≡◌, ℕ, ◌+◌, ◌<◌, ◌≤◌, Bool, true, false, eqb, leb, List, [], ◌∷◌, ◌++◌, Option, Some, None, refl, sym, ap, subst, ◌∙◌, ◌⊎◌, inl, inr, arith}
 use Rattle.std.specs.Prelude.{option_map}
 use Rattle.std.proofs.lemmas.Bool.{cases_Bool}
 use Rattle.jm_cmds.specs.declared.commands.Command.{Command}
@@ -13,7 +13,6 @@ use Rattle.ch_voice.specs.Bank.{no_bank, bank_step}
 use Rattle.ch_voice.specs.ChapterP.{banked_packet}
 use Rattle.jm_state.specs.declared.channel.ProgramPart.{ProgramPart}
 use Rattle.jm_state.specs.declared.state.State.{State}
-use Rattle.jm_state.specs.Apply.{applied}
 use Rattle.jm_state.specs.Final.{final, final-same}
 use Rattle.jm_state.specs.Kept.{IsState}
 use Rattle.jm_state.specs.PartLaws.{by_part}

@@ -1,11 +1,10 @@
 -- A listener hears the programs with their banks, and Controls 0 and 32.
-use Rattle.std.proofs.Common.{◌≡◌, ◌⊎◌, ℕ, ◌+◌, ◌<◌, ◌≤◌, Bool, true, false, cond, ◌&&◌, ◌||◌, eqb, List, [], ◌∷◌, length, Option, Some, None, fold, refl, sym, ap, subst, ◌∙◌, inl, inr, arith}
-use Rattle.std.specs.List.{filter, range_with_len}
+use Rattle.std.proofs.Common.{◌≡◌, ◌⊎◌, ℕ, ◌<◌, ◌≤◌, Bool, true, false, cond, ◌&&◌, ◌||◌, eqb, List, [], ◌∷◌, length, Option, Some, None, fold, refl, sym, ap, subst, ◌∙◌, inl, inr, arith}
 use Rattle.jm_cmds.specs.declared.history.Sent.{Sent}
 use Rattle.jm_cmds.specs.History.{below, InOrder}
 use Rattle.jm_cmds.specs.Sent.{packet_of}
 use Rattle.jm_reader.specs.WrittenP.{p_said}
-use Rattle.std.proofs.lemmas.Bool.{cases_Bool, eqb-true, eq-eqb, and_parts, ne_eqb}
+use Rattle.std.proofs.lemmas.Bool.{cases_Bool, eqb-true, eq-eqb, and_parts}
 use Rattle.jm_cmds.specs.declared.commands.Command.{Command}
 use Rattle.jm_cmds.specs.declared.commands.Command.TheVariants as commands
 use Rattle.jm_cmds.specs.Control.{control_kind}
@@ -18,25 +17,25 @@ use Rattle.jm_state.specs.KeptLaws.{state_after_is}
 use Rattle.jm_state.specs.Parts.{program_of, control_of, selection_of}
 use Rattle.jm_state.specs.PartLaws.{by_part}
 use Rattle.jm_state.specs.Sameness.{same_states, states_parts}
-use Rattle.jm_state.specs.Replay.{over, said-over}
+use Rattle.jm_state.specs.Replay.{said-over}
 use Rattle.jm_state.specs.Says.{said, control_says}
 use Rattle.jm_reader.specs.declared.logs.Log.{Log}
 use Rattle.jm_reader.specs.declared.logs.LogKind.{LogKind}
 use Rattle.jm_reader.specs.declared.logs.LogKind.TheVariants as kinds
 use Rattle.jm_receiver.specs.declared.group.Group.{Group}
-use Rattle.jm_receiver.specs.declared.group.Group.TheVariants.{Programs, Params, Controls, Wheels, Released, Struck, Pressures, Polys}
+use Rattle.jm_receiver.specs.declared.group.Group.TheVariants.{Programs, Params, Controls}
 use Rattle.jm_receiver.specs.declared.heard.HeardKind.{HeardKind}
 use Rattle.jm_receiver.specs.declared.heard.Hearing.{Hearing}
 use Rattle.jm_receiver.specs.declared.heard.HeardKind.TheVariants.{Repaired}
 use Rattle.jm_receiver.specs.Agreement.{Agrees}
-use Rattle.jm_receiver.specs.ControlLaw.{control_is, control_log_says, control_groups}
-use Rattle.jm_receiver.specs.Follows.{Follows, Allows, AreKept, session_follows, group_follows, other_follows, behind_follows, after_params}
-use Rattle.jm_receiver.specs.Group.{is_of, all_groups, all_channels}
-use Rattle.jm_receiver.specs.HandedOn.{handed_on_if_new, handed_on, bank_handed_on, program_handed_on_if_new, program_is, bank_is, value_or_zero, log_handed_on, log_handed_on_of, group_handed_on, controls_handed_on, selection_handed_on_after_params, channel_handed_on, resets_handed_on, messages_handed_on, songs_handed_on, repair_handed_on}
-use Rattle.jm_receiver.specs.Order.{IsPart, in_order, of_group, log_says, with_log, session_done, group-fold, channel-fold, session_left, silent_elsewhere, channel_log_is}
+use Rattle.jm_receiver.specs.ControlLaw.{control_is, control_log_says}
+use Rattle.jm_receiver.specs.Follows.{Follows, Allows, group_follows, other_follows, behind_follows, after_params}
+use Rattle.jm_receiver.specs.Group.{is_of, all_groups}
+use Rattle.jm_receiver.specs.HandedOn.{handed_on_if_new, handed_on, bank_handed_on, program_handed_on_if_new, program_is, bank_is, value_or_zero, log_handed_on, log_handed_on_of, group_handed_on, controls_handed_on, selection_handed_on_after_params, channel_handed_on}
+use Rattle.jm_receiver.specs.Order.{of_group, log_says, with_log, group-fold, channel_log_is}
 use Rattle.jm_receiver.specs.ProgramHeard.{HasOwn, OneProgram, one_program, program_told, control_logs, high_held, low_held, none_told}
-use Rattle.jm_receiver.specs.ProgramLaw.{program_is as program_part_is, program_log_says, program_groups}
-use Rattle.jm_receiver.specs.Repair.{cleared, group_repaired, channel_repaired, repaired, with_channel_log, with_log_of}
+use Rattle.jm_receiver.specs.ProgramLaw.{program_is as program_part_is}
+use Rattle.jm_receiver.specs.Repair.{cleared, group_repaired, channel_repaired, repaired, with_channel_log}
 
 -- ## A program's log
 
@@ -258,10 +257,10 @@ stronger programs controls fewer t s program control f = record {
   poly = f.poly;
 }
 
-abbrev log_handed : Hearing → Log → Hearing
+abbrev pub log_handed : Hearing → Log → Hearing
 log_handed h log = log_handed_on h log.what
 
-handed_of : (group : Group) (channel : ℕ) (h : Hearing) (logs : List Log) → fold (log_handed_on_of group channel) h logs ≡ fold log_handed h (of_group group channel logs)
+pub handed_of : (group : Group) (channel : ℕ) (h : Hearing) (logs : List Log) → fold (log_handed_on_of group channel) h logs ≡ fold log_handed h (of_group group channel logs)
 handed_of group channel h [] = refl
 handed_of group channel h (log ∷ logs) =
     handed_of group channel (log_handed_on_of group channel h log) logs

@@ -1,12 +1,12 @@
 -- The bank of the program that a list of commands chose last, and Controls 0 and 32 behind the list.
-use Rattle.std.proofs.Common.{◌≡◌, ℕ, ◌<◌, Bool, true, false, cond, ◌||◌, eqb, ltb, List, [], ◌∷◌, ◌++◌, Option, Some, None, fold, refl, sym, ap, subst, ◌∙◌, inl, inr, arith}
+use Rattle.std.proofs.Common.{◌≡◌, ℕ, Bool, true, false, cond, eqb, ltb, List, [], ◌∷◌, Option, Some, None, refl, sym, ap, subst, ◌∙◌, inl, inr}
 use Rattle.std.specs.List.{list_any}
 use Rattle.std.proofs.lemmas.Bool.{cases_Bool, eqb-true, or_parts}
 use Rattle.ch_sysex.specs.SysexEvent.{resets}
 use Rattle.jm_cmds.specs.declared.commands.Command.{Command}
 use Rattle.jm_cmds.specs.declared.commands.Command.TheVariants as commands
 use Rattle.jm_cmds.specs.declared.history.Sent.{Sent}
-use Rattle.jm_cmds.specs.Control.{control_kind, is_reset, is_reset_message}
+use Rattle.jm_cmds.specs.Control.{control_kind, is_reset}
 use Rattle.jm_cmds.specs.History.{scanned}
 use Rattle.ch_voice.specs.Bank.{bank_after, bank_step}
 use Rattle.ch_voice.specs.ProgramEvent.{program_event}

@@ -1,6 +1,6 @@
 -- A listener's state, to which each command that repair hands on is applied, follows the state under repair.
-use Rattle.std.proofs.Common.{◌≡◌, ℕ, ◌+◌, ◌%◌, ◌<◌, Bool, true, false, cond, not, ◌&&◌, ◌||◌, eqb, List, [], ◌∷◌, length, Option, Some, None, fold, refl, sym, ap, subst, ◌∙◌, inl, inr, arith}
-use Rattle.std.specs.List.{list_any, AllByRecursion}
+use Rattle.std.proofs.Common.{◌≡◌, ℕ, ◌+◌, ◌%◌, ◌<◌, Bool, true, false, cond, not, ◌&&◌, ◌||◌, eqb, List, [], ◌∷◌, length, Option, Some, None, fold, refl, sym, ap, subst, ◌∙◌, inl, inr}
+use Rattle.std.specs.List.{AllByRecursion}
 use Rattle.std.proofs.lemmas.Bool.{cases_Bool, eqb-true}
 use Rattle.jm_cmds.specs.declared.commands.Command.{Command}
 use Rattle.jm_cmds.specs.declared.commands.Command.TheVariants as commands
@@ -19,7 +19,7 @@ use Rattle.jm_state.specs.PartLaws.{by_part}
 use Rattle.jm_state.specs.Same.{AreSame}
 use Rattle.jm_state.specs.Sameness.{same_states, states_parts}
 use Rattle.jm_state.specs.Says.{said, ended, count_after, song_says, program_says, controller_says, control_says, wheel_says, note_says, pressure_says, poly_says}
-use Rattle.jm_state.specs.SettingLaws.{Touched, nothing, SameBut, program_alone, toggles_alone, param_high_alone, param_low_alone}
+use Rattle.jm_state.specs.SettingLaws.{nothing, SameBut, program_alone, toggles_alone, param_high_alone, param_low_alone}
 use Rattle.jm_reader.specs.declared.logs.Log.{Log}
 use Rattle.jm_reader.specs.declared.logs.LogKind.{LogKind}
 use Rattle.jm_reader.specs.declared.logs.LogKind.TheVariants as kinds
@@ -28,8 +28,8 @@ use Rattle.jm_receiver.specs.declared.group.Group.TheVariants.{Programs, Params,
 use Rattle.jm_receiver.specs.declared.heard.HeardKind.{HeardKind}
 use Rattle.jm_receiver.specs.declared.heard.HeardKind.TheVariants.{Repaired}
 use Rattle.jm_receiver.specs.declared.heard.Hearing.{Hearing}
-use Rattle.jm_receiver.specs.Group.{is_of, command_of, all_groups, all_channels}
-use Rattle.jm_receiver.specs.HandedOn.{handed_on_if_new, handed_on, control_handed_on, half_handed_on, reset_handed_on, resets_handed_on, message_handed_on, message_handed_on_if_counting, messages_handed_on, song_handed_on, songs_handed_on, value_or_zero, low_bank_handed_on_if_new, bank_handed_on, program_is, program_handed_on_if_new, halves_are, param_handed_on, param_handed_on_if_new, rpn_handed_on, nrpn_handed_on, selection_handed_on, selection_handed_on_after_params, kind_of, command_handed_on_if_new, log_handed_on, log_handed_on_of, group_handed_on, controls_handed_on, channel_handed_on, repair_handed_on}
+use Rattle.jm_receiver.specs.Group.{is_of, all_groups, all_channels}
+use Rattle.jm_receiver.specs.HandedOn.{handed_on_if_new, handed_on, control_handed_on, half_handed_on, reset_handed_on, resets_handed_on, message_handed_on, message_handed_on_if_counting, messages_handed_on, song_handed_on, songs_handed_on, value_or_zero, low_bank_handed_on_if_new, bank_handed_on, program_is, program_handed_on_if_new, halves_are, param_handed_on_if_new, rpn_handed_on, nrpn_handed_on, selection_handed_on, selection_handed_on_after_params, kind_of, command_handed_on_if_new, log_handed_on, log_handed_on_of, group_handed_on, controls_handed_on, channel_handed_on, repair_handed_on}
 use Rattle.jm_receiver.specs.MessageLaw.{and_false}
 use Rattle.jm_receiver.specs.Order.{channel_log_is, session_log_is, high_is, session_done}
 use Rattle.jm_receiver.specs.Repair.{is_reset_log, has_reset, cleared, counts, is_ahead, with_message, messages_repaired, with_session_log, session_repaired, applied_if, high_entered, low_entered, with_channel_log, with_log_of, group_repaired, channel_repaired, repaired}

@@ -1,5 +1,5 @@
 -- What repair hands on tells a listener most of what it repairs, whatever the state and the logs are.
-use Rattle.std.proofs.Common.{◌≡◌, ℕ, Bool, true, false, List, [], refl, sym, ap, subst, ◌∙◌}
+use Rattle.std.proofs.Common.{◌≡◌, ℕ, true, false, List, [], refl, subst}
 use Rattle.jm_state.specs.declared.state.State.{State}
 use Rattle.jm_state.specs.Kept.{IsState}
 use Rattle.jm_state.specs.SettingLaws.{Touched, nothing, SameBut}

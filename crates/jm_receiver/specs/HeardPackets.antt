@@ -1,27 +1,22 @@
 -- What a receiver hears of a packet, played to a listener.
-use Rattle.std.proofs.Common.{◌≡◌, ℕ, ◌+◌, ◌-◌, ◌%◌, ◌^◌, ◌<◌, ◌≤◌, Bool, true, false, eqb, List, [], ◌∷◌, ◌++◌, Option, Some, None, fold, refl, sym, ap, subst, ◌∙◌, inl, inr, arith}
-use Rattle.std.specs.Prelude.{Result, Ok, Err}
-use Rattle.std.specs.List.{AllByRecursion}
+use Rattle.std.proofs.Common.{◌≡◌, ℕ, ◌+◌, ◌-◌, ◌%◌, ◌^◌, ◌≤◌, eqb, List, [], ◌∷◌, Option, Some, None, fold, refl, sym, ap, subst, ◌∙◌, inl, inr, arith}
+use Rattle.std.specs.Prelude.{Result, Ok}
 use Rattle.std.proofs.lemmas.Bool.{cases_Bool, eqb-true}
 use Rattle.std.proofs.lemmas.Bool.Decides.{nat_tests}
 use Rattle.std.proofs.lemmas.List.Sums.{fold-append}
 use Rattle.jm_cmds.specs.declared.commands.Command.{Command}
 use Rattle.jm_cmds.specs.declared.history.Sent.{Sent}
 use Rattle.jm_cmds.specs.History.{below, InOrder}
-use Rattle.jm_cmds.specs.HistoryLaws.{AllByRecursion-filter}
 use Rattle.jm_cmds.specs.Sent.{packet_of}
 use Rattle.jm_section.specs.declared.item.Item.{Item}
 use Rattle.jm_section.specs.declared.item.What.{What}
 use Rattle.jm_section.specs.declared.item.What.TheVariants.{Whole, Part, Passed}
 use Rattle.ch_sysex.specs.ChapterX.{sysex_logs}
-use Rattle.jm_state.specs.declared.channel.ProgramPart.{ProgramPart}
 use Rattle.jm_state.specs.declared.state.State.{State}
 use Rattle.jm_state.specs.Apply.{applied}
-use Rattle.jm_state.specs.Kept.{IsState}
 use Rattle.jm_state.specs.KeptLaws.{state_after_is}
-use Rattle.jm_state.specs.Parts.{program_of, control_of}
 use Rattle.jm_state.specs.PartLaws.{by_part}
-use Rattle.jm_state.specs.Says.{said, count_after, song_says, program_says, control_says, wheel_says, note_says, pressure_says, poly_says}
+use Rattle.jm_state.specs.Says.{said, count_after, song_says, control_says, wheel_says, note_says, pressure_says, poly_says}
 use Rattle.jm_state.specs.SettingLaws.{SameBut}
 use Rattle.jm_reader.specs.declared.logs.Log.{Log}
 use Rattle.jm_reader.specs.Written.{AreCommands}
@@ -30,8 +25,7 @@ use Rattle.jm_receiver.specs.declared.heard.Heard.{Heard}
 use Rattle.jm_receiver.specs.declared.heard.Hearing.{Hearing}
 use Rattle.jm_receiver.specs.declared.opening.AcceptFault.{AcceptFault}
 use Rattle.jm_receiver.specs.declared.place.Placed.{Placed}
-use Rattle.jm_receiver.specs.declared.place.Uses.{Uses}
-use Rattle.jm_receiver.specs.declared.place.Uses.TheVariants.{Nothing, Fresh, All}
+use Rattle.jm_receiver.specs.declared.place.Uses.TheVariants.{All}
 use Rattle.jm_receiver.specs.declared.receiver.Took.{Took}
 use Rattle.jm_receiver.specs.Accept.{Contents, opened, placed, used_after, repaired_by, repaired_using, heard_in, took_at, accepted}
 use Rattle.jm_receiver.specs.Agreement.{Agrees}
@@ -42,7 +36,7 @@ use Rattle.jm_receiver.specs.HandedOn.{repair_handed_on}
 use Rattle.jm_receiver.specs.Heard.{what_heard, sent_also, sent_all}
 use Rattle.jm_receiver.specs.HeardLaw.{listening}
 use Rattle.jm_receiver.specs.HeardStates.{untold, all_followed, journal_follows, fresh_follows}
-use Rattle.jm_receiver.specs.InStep.{first_lacking, CanTell, IsNext, IsOfStream, commands_in}
+use Rattle.jm_receiver.specs.InStep.{first_lacking, CanTell, IsOfStream}
 use Rattle.jm_receiver.specs.SectionLaws.{ahead_placed, none_repaired}
 use Rattle.jm_receiver.specs.Listened.{listened, repair_listened}
 use Rattle.jm_receiver.specs.Needless.{none_handed_on}

@@ -1,5 +1,5 @@
 -- What repair hands on of a journal's logs tells a listener the programs with their banks, too, and all controls.
-use Rattle.std.proofs.Common.{◌≡◌, ℕ, zero, suc, ◌+◌, ◌<◌, ◌≤◌, Bool, true, false, ◌||◌, eqb, List, [], ◌∷◌, ◌++◌, Option, Some, None, fold, refl, sym, ap, subst, ◌∙◌, inl, inr, arith}
+use Rattle.std.proofs.Common.{◌≡◌, ℕ, zero, suc, ◌+◌, ◌<◌, ◌≤◌, Bool, true, false, eqb, List, ◌++◌, Option, fold, refl, ap, subst, ◌∙◌, inl, inr, arith}
 use Rattle.std.specs.List.{AllByRecursion, range_with_len}
 use Rattle.std.proofs.lemmas.Bool.{cases_Bool, ne_eqb}
 use Rattle.jm_cmds.specs.declared.commands.Command.{Command}
@@ -13,7 +13,7 @@ use Rattle.jm_cmds.specs.Sent.{packet_of, is_fresh}
 use Rattle.ch_sysex.specs.ChapterX.{sysex_logs, coded_counted}
 use Rattle.ch_sysex.specs.SysexEvent.{sysex_event, data_of}
 use Rattle.jm_state.specs.declared.state.State.{State}
-use Rattle.jm_state.specs.Final.{final, fold-part}
+use Rattle.jm_state.specs.Final.{fold-part}
 use Rattle.jm_state.specs.Kept.{IsState}
 use Rattle.jm_state.specs.Parts.{program_of, control_of}
 use Rattle.jm_state.specs.Says.{said}
@@ -43,7 +43,7 @@ use Rattle.jm_receiver.specs.Group.{is_of, all_channels}
 use Rattle.jm_receiver.specs.HandedOn.{channel_handed_on, resets_handed_on, messages_handed_on, songs_handed_on, repair_handed_on}
 use Rattle.jm_receiver.specs.HeardLaw.{listening, handed_on_by}
 use Rattle.jm_receiver.specs.Listened.{listened, repair_listened}
-use Rattle.jm_receiver.specs.Order.{IsPart, in_order, of_group, log_says, with_log, session_done, channel-fold, session_left, silent_elsewhere, channel_log_is, session_is}
+use Rattle.jm_receiver.specs.Order.{IsPart, in_order, of_group, log_says, with_log, session_done, channel-fold, session_left, silent_elsewhere, channel_log_is}
 use Rattle.jm_receiver.specs.ProgramLaw.{program_is, program_log_says, program_groups}
 use Rattle.jm_receiver.specs.ProgramHeard.{HasOwn}
 use Rattle.jm_receiver.specs.Resets.{reset_of_journal}

@@ -50,3 +50,4 @@ pub mod SectionLaws
 pub mod HeardPackets
 pub mod StaysInStep
 pub mod Late
+pub mod ParamsHeard

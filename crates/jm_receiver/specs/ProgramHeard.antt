@@ -1,5 +1,5 @@
 -- What the journal's program and the bank with it are to a listener.
-use Rattle.std.proofs.Common.{◌≡◌, ◌⊎◌, ℕ, ◌+◌, ◌<◌, ◌≤◌, Bool, true, false, cond, ◌&&◌, ◌||◌, eqb, ltb, leb, List, [], ◌∷◌, ◌++◌, Option, Some, None, fold, refl, sym, ap, subst, ◌∙◌, inl, inr, arith}
+use Rattle.std.proofs.Common.{◌≡◌, ◌⊎◌, ℕ, ◌<◌, ◌≤◌, Bool, true, false, eqb, leb, List, [], ◌∷◌, Option, Some, None, fold, refl, sym, ap, ◌∙◌, inl, inr, arith}
 use Rattle.std.specs.List.{list_any, flat_map, filter, AllByRecursion}
 use Rattle.std.proofs.lemmas.Bool.{cases_Bool, eq-eqb, eqb-true, and_parts, leb-true, le-leb}
 use Rattle.std.proofs.lemmas.List.Sums.{fold-append}
@@ -7,7 +7,7 @@ use Rattle.jm_cmds.specs.declared.commands.Command.{Command}
 use Rattle.jm_cmds.specs.declared.history.Sent.{Sent}
 use Rattle.jm_cmds.specs.Control.{control_kind}
 use Rattle.jm_cmds.specs.History.{below, since, scanned, Unended, InOrder}
-use Rattle.jm_cmds.specs.HistoryLaws.{InOrder-filter, InOrder-scanned, Unended-coded, AllByRecursion-weaker, AllByRecursion-filter, all_unended, filter-filter}
+use Rattle.jm_cmds.specs.HistoryLaws.{InOrder-filter, InOrder-scanned, Unended-coded, AllByRecursion-filter, all_unended, filter-filter}
 use Rattle.jm_cmds.specs.Sent.{packet_of, is_fresh}
 use Rattle.ch_voice.specs.declared.events.ProgramEvent.{ProgramEvent}
 use Rattle.ch_voice.specs.declared.events.ProgramEvent.TheVariants as programs
@@ -37,12 +37,12 @@ use Rattle.jm_receiver.specs.Agreement.{Agrees}
 use Rattle.jm_receiver.specs.BankPlaces.{bank_at, is_set, program_bank, told_before, none_before, spoken_over, unspoken}
 use Rattle.jm_receiver.specs.ControlLaw.{control_is, control_log_says, control_groups, control_heard}
 use Rattle.jm_receiver.specs.Group.{is_of, all_groups}
-use Rattle.jm_receiver.specs.HandedOn.{program_is as is_program_of, bank_is, value_or_zero}
+use Rattle.jm_receiver.specs.HandedOn.{program_is as is_program_of, value_or_zero}
 use Rattle.jm_receiver.specs.MessageLaw.{since-scanned, scanned-append}
 use Rattle.jm_receiver.specs.Order.{in_order, of_group, log_says, part_repaired, tag, rank, is_tagged, is_of-tag, concerns_tag, final-filter_none}
 use Rattle.jm_receiver.specs.ProgramLaw.{IsBank, banked_says, bank_along, no_bank_is, high_after, low_after, program_log_says, program_groups, program_is, program_heard, program_behind}
 use Rattle.jm_receiver.specs.Repair.{has_reset, cleared, repaired}
-use Rattle.jm_receiver.specs.Repairs.{groups_heard, below_next, journal_says, place_says}
+use Rattle.jm_receiver.specs.Repairs.{groups_heard, below_next, place_says}
 
 -- ## One program
 

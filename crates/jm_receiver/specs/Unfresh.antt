@@ -1,14 +1,14 @@
 -- Where the one lost packet had no commands, the next one's journal has no fresh logs, and nothing needless is heard.
-use Rattle.std.proofs.Common.{◌≡◌, ℕ, ◌+◌, ◌-◌, Bool, true, false, ◌&&◌, ◌||◌, eqb, leb, ltb, List, [], ◌∷◌, ◌++◌, Option, Some, None, map, refl, sym, ap, subst, ◌∙◌, inl, inr, arith}
+use Rattle.std.proofs.Common.{◌≡◌, ℕ, Bool, true, false, ◌&&◌, ◌||◌, eqb, leb, ltb, List, [], ◌∷◌, ◌++◌, Option, Some, None, map, refl, ap, subst, ◌∙◌, inl, inr, arith}
 use Rattle.std.specs.Prelude.{Ok}
-use Rattle.std.specs.List.{flat_map, list_any, filter, filter_map, cons_option, AllByRecursion, range_with_len}
+use Rattle.std.specs.List.{flat_map, list_any, filter_map, cons_option, AllByRecursion, range_with_len}
 use Rattle.std.proofs.lemmas.Bool.{cases_Bool, eqb-true}
 use Rattle.std.proofs.lemmas.Bool.Decides.{nat_tests}
 use Rattle.jm_cmds.specs.declared.history.Sent.{Sent}
 use Rattle.jm_cmds.specs.declared.param.Param.{Param}
 use Rattle.jm_cmds.specs.Frames.{time_code_after}
 use Rattle.jm_cmds.specs.History.{standing, below, coded, scanned}
-use Rattle.jm_cmds.specs.HistoryLaws.{filter_none, AllByRecursion-filter, AllByRecursion-standing, AllByRecursion-scanned, AllByRecursion-append, all_unended}
+use Rattle.jm_cmds.specs.HistoryLaws.{AllByRecursion-filter, AllByRecursion-standing, AllByRecursion-scanned, AllByRecursion-append, all_unended}
 use Rattle.jm_cmds.specs.Selection.{no_selection}
 use Rattle.jm_cmds.specs.Sent.{packet_of, is_fresh}
 use Rattle.jm_cmds.specs.Sequencing.{sequencer_after}
@@ -20,7 +20,7 @@ use Rattle.ch_voice.specs.PressureEvent.{pressure_at, pressure_ends}
 use Rattle.ch_voice.specs.WheelEvent.{wheel_at, wheel_ends}
 use Rattle.ch_control.specs.ChapterC.{coded_controls}
 use Rattle.ch_control.specs.ControlEvent.{control_ends}
-use Rattle.ch_param.specs.ChapterM.{Entered, entered, entered_at, entered_by, event_param, session_places}
+use Rattle.ch_param.specs.ChapterM.{entered, entered_at, entered_by, event_param, session_places}
 use Rattle.ch_param.specs.Event.{Place, packet_at, event_at as entry_at, param_ends, selection_step}
 use Rattle.ch_notes.specs.ChapterA.{coded_presses}
 use Rattle.ch_notes.specs.ChapterN.{coded_notes, is_released, released, released_fresh}
@@ -52,12 +52,11 @@ use Rattle.jm_reader.specs.WrittenT.{t_said, place_said as t_place}
 use Rattle.jm_reader.specs.WrittenV.{v_said}
 use Rattle.jm_reader.specs.WrittenW.{w_said, place_said as w_place}
 use Rattle.jm_reader.specs.WrittenX.{x_said, sysex_said}
-use Rattle.jm_receiver.specs.declared.place.Placed.{Placed}
 use Rattle.jm_receiver.specs.declared.receiver.Took.{Took}
-use Rattle.jm_receiver.specs.Accept.{Contents, opened, packets_ahead, placed, used_after, accepted}
+use Rattle.jm_receiver.specs.Accept.{Contents, opened, accepted}
 use Rattle.jm_receiver.specs.FreshLogs.{fresh_of, AreAll, kept, all_logged_fresh, program_fresh, wheel_fresh, note_fresh, pressure_fresh, position_fresh, code_fresh, message_fresh}
 use Rattle.jm_receiver.specs.InStep.{IsOfStream}
-use Rattle.jm_receiver.specs.Needless.{HearsJust, UsedNone, used_of, accepted_just, one_used}
+use Rattle.jm_receiver.specs.Needless.{HearsJust, accepted_just, one_used}
 use Rattle.jm_receiver.specs.Receiver.{Received}
 use Rattle.jm_receiver.specs.SystemLogs.{all_flat}
 

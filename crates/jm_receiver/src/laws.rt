@@ -15,6 +15,7 @@ ghost use Rattle.jm_receiver.specs.Unfresh.{NothingNeedlessBehindAnEmptyPacket};
 ghost use Rattle.jm_receiver.specs.HeardLaw.{MostPartsAreHeard};
 ghost use Rattle.jm_receiver.specs.HeardStates.{StatesAreHeard, StatesAreHeardByFresh};
 ghost use Rattle.jm_receiver.specs.HeardPackets.{PacketsAreHeard};
+ghost use Rattle.jm_receiver.specs.ParamsHeard.{ParametersAreHeard};
 
 /// The program of each channel is repaired, with the bank that it was chosen with.
 #[tactic(auto, using(crate::specs::ProgramLaw::program_repaired))]
@@ -188,4 +189,12 @@ pub fn packets_are_heard()
 /// later than the first packet that it lacks.
 pub fn late_joiners_have_values()
     ensures { LateJoinersHaveValues }
+{}
+
+/// What repair hands on tells a listener of parameters, too: of a whole state that agrees with the packets before the first lost one, the
+/// commands that repair by a journal's logs hands on, each applied in order to it, leave it with the parameters of the repaired state, both
+/// halves of each, in each channel in which at most 16 different ones were entered since the last Reset State command. So it is by
+/// all logs, and by the fresh ones alone where just one packet was lost.
+pub fn parameters_are_heard()
+    ensures { ParametersAreHeard }
 {}
