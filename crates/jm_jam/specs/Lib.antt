@@ -1,2 +1,4 @@
 pub mod Made
 pub mod Summary
+pub mod Workers
+pub mod Working
