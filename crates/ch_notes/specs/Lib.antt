@@ -15,3 +15,8 @@ pub mod PolyLimits
 pub mod ExtraLaws
 pub mod PressLaws
 pub mod Muted
+pub mod KeptRows
+pub mod RowLaws
+pub mod Walks
+pub mod PolyTable
+pub mod PolyTableLaws

@@ -7,10 +7,13 @@
 pub mod a;
 pub mod e;
 mod events;
+mod key_logs;
 pub mod laws;
 pub mod n;
+mod poly_table;
 mod presses;
 mod shape;
 
 pub use events::{NoteEvent, note_event};
+pub use poly_table::PolyTable;
 pub use presses::{PolyEvent, poly_event, pressed_note};
