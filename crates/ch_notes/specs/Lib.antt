@@ -20,3 +20,8 @@ pub mod RowLaws
 pub mod Walks
 pub mod PolyTable
 pub mod PolyTableLaws
+pub mod NoteTable
+pub mod NoteTableLaws
+pub mod CountSteps
+pub mod ExtraTable
+pub mod ExtraTableLaws

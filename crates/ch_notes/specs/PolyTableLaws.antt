@@ -24,7 +24,7 @@ use Rattle.ch_notes.specs.declared.poly_table.PressRows.{PressRows}
 use Rattle.ch_notes.specs.PolyEvent.{poly_event, poly_at, poly_concerns, poly_event_ends, poly_ends, poly_key, pressed_note, presses}
 use Rattle.ch_notes.specs.ChapterA.{muted_step, is_muted, press_logs, press_at, coded_presses, chapter_a, fresh_a, poly_count, has_poly}
 use Rattle.ch_notes.specs.KeptRows.{cons_row, rows_of, RowsUpTo, row_fresh, rows_listed}
-use Rattle.ch_notes.specs.RowLaws.{rows_of-append, rows_of-same, rows_of-cond, rows_of-later, option_logs, listed_rows, fresh_rows, stamps_up_to, keys_without}
+use Rattle.ch_notes.specs.RowLaws.{up_to_later, up_to_join, up_to_filter, rows_of-append, rows_of-same, rows_of-cond, rows_of-later, option_logs, listed_rows, fresh_rows, stamps_up_to, keys_without}
 use Rattle.ch_notes.specs.PolyTable.{PressRow, press_row, press_row_at, presses_kept, mute, new_press, press_noted, press_row_logs, press_row_of, press_rows, has_press}
 
 -- ## What a command means for its own channel
@@ -258,3 +258,14 @@ keys_held rows note (e ∷ es) = ap (λ b. eqb e.0 note || b) (keys_held rows no
 pub rows_count : (rows : PressRows) (es : List (ℕ × ℕ)) → length es ≡ length (press_rows rows es)
 rows_count rows [] = refl
 rows_count rows (e ∷ es) = ap suc (rows_count rows es)
+
+new_up_to : (packet later : ℕ) (e : PolyEvent) → packet ≤ later → RowsUpTo later (new_press packet e)
+new_up_to packet later (Pressed note value) l = (l, tt)
+new_up_to packet later Dropped l = tt
+new_up_to packet later Other l = tt
+
+pub press_up_to : (ends : Bool) (e : PolyEvent) (packet later : ℕ) (rows : List (ℕ × PressRow)) → RowsUpTo packet rows → packet ≤ later → RowsUpTo later (press_noted ends e packet rows)
+press_up_to ends e packet later rows h l =
+    let left = filter (λ (r : ℕ × PressRow). not (poly_concerns r.1.note e)) (mute ends rows) in
+    let muted = up_to_later packet later (mute ends rows) l (mute_up_to ends packet rows h) in
+    up_to_join later left (new_press packet e) (up_to_filter later (λ (r : ℕ × PressRow). not (poly_concerns r.1.note e)) (mute ends rows) muted) (new_up_to packet later e l)

@@ -169,3 +169,23 @@ length_key_listed logs packet es =
       | inl t ↦ rw t refl
       | inr f ↦ rw f (omega (arith, length-key_texts logs packet es))
     ]
+
+-- ## Rows up to a packet
+
+pub up_to_later : {R : Type 0} (packet later : ℕ) (rows : List (ℕ × R)) → packet ≤ later → RowsUpTo packet rows → RowsUpTo later rows
+up_to_later packet later [] l h = tt
+up_to_later packet later (r ∷ rs) l h = (omega (arith, h.0, l), up_to_later packet later rs l h.1)
+
+pub up_to_join : {R : Type 0} (packet : ℕ) (xs ys : List (ℕ × R)) → RowsUpTo packet xs → RowsUpTo packet ys → RowsUpTo packet (xs ++ ys)
+up_to_join packet [] ys h k = k
+up_to_join packet (r ∷ rs) ys h k = (h.0, up_to_join packet rs ys h.1 k)
+
+pub up_to_filter : {R : Type 0} (packet : ℕ) (p : ℕ × R → Bool) (rows : List (ℕ × R)) → RowsUpTo packet rows → RowsUpTo packet (filter p rows)
+up_to_filter packet p [] h = tt
+up_to_filter packet p (r ∷ rs) h =
+    let ih = up_to_filter packet p rs h.1 in
+    elim (cases_Bool (p r)) [ inl t ↦ rw t (h.0, ih) | inr f ↦ rw f ih ]
+
+pub up_to_one : {R : Type 0} (packet later : ℕ) (o : Option R) → packet ≤ later → RowsUpTo later (cons_row packet o [])
+up_to_one packet later None l = tt
+up_to_one packet later (Some row) l = (l, tt)

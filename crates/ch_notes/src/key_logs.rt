@@ -1,6 +1,7 @@
 //! Lists of logs by keys: what the tables of Chapters E and A share.
 
 ghost use Rattle.std.specs.Prelude.{ℕ, List, ◌≡◌, ◌≤◌, ◌<◌, length};
+ghost use Rattle.std.specs.List.{AllByRecursion};
 ghost use Rattle.jm_wire.specs.Octets.{Appends};
 ghost use Rattle.jm_chapter.specs.declared.log.Log.{Log};
 ghost use Rattle.jm_chapter.specs.Logs.{logs_in};
@@ -15,11 +16,14 @@ use jm_wire::Octets;
 pub(crate) trait KeyLogs {
     ghost logs: { Self → ℕ → List Log };
 
+    ghost is_within: { Self → ℕ → Type 0 };
+
     /// The logs of this note.
     fn logs_of(&self, key: u16) -> PlaceLogs
         requires { key < 128 }
         ensures logs { logs_in result ≡ logs self.now key }
-        ensures one { length (logs_in result) ≤ 1 };
+        ensures one { length (logs_in result) ≤ 1 }
+        ensures within { is_within self.now key };
 }
 
 /// How many logs these notes have, and whether one is of the packet before.
@@ -28,6 +32,7 @@ pub(crate) fn key_tally<T: KeyLogs>(table: &T, recent: &Recency<128>, packet: u6
     ensures logs { result.logs ≡ key_logs (T.logs table.now) recent.now }
     ensures fresh { result.fresh ≡ key_fresh (T.logs table.now) packet recent.now }
     ensures few { result.logs ≤ 128 }
+    ensures within { AllByRecursion (λ e. T.is_within table.now e.0) recent.now }
 {
     let mut tally = Tally {
         logs: 0,
@@ -68,6 +73,7 @@ fn write_key_logs<T: KeyLogs>(table: &T, recent: &Recency<128>, packet: u64, out
 pub(crate) fn key_len<T: KeyLogs>(table: &T, recent: &Recency<128>, packet: u64) -> usize
     ensures number { result ≡ length (key_listed (T.logs table.now) packet recent.now) }
     ensures bound { result ≤ 257 }
+    ensures within { AllByRecursion (λ e. T.is_within table.now e.0) recent.now }
 {
     key_tally(table, recent, packet).size()
 }
@@ -75,7 +81,8 @@ pub(crate) fn key_len<T: KeyLogs>(table: &T, recent: &Recency<128>, packet: u64)
 /// Appends a chapter with these logs.
 pub(crate) fn key_write<T: KeyLogs>(table: &T, recent: &Recency<128>, packet: u64, out: &mut Octets)
     requires { length (key_listed (T.logs table.now) packet recent.now) ≤ out.old.spare }
-    ensures { Appends out.old out.new (key_listed (T.logs table.now) packet recent.now) }
+    ensures text { Appends out.old out.new (key_listed (T.logs table.now) packet recent.now) }
+    ensures within { AllByRecursion (λ e. T.is_within table.now e.0) recent.now }
 {
     let tally = key_tally(table, recent, packet);
     if tally.logs > 0 {

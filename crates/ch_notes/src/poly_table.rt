@@ -34,6 +34,8 @@ pub(crate) struct PressRows {
 impl KeyLogs for PressRows {
     ghost logs = { λ s key. press_row_logs (press_row_of s key) };
 
+    ghost is_within = { λ s key. Unit {0} };
+
     fn logs_of(&self, key: u16) -> PlaceLogs {
         let place = key as usize;
         let x = x_bit(!self.active[place]);
@@ -84,6 +86,7 @@ impl PolyTable {
     pub fn note(&mut self, command: &Command, packet: u64, tick: u64)
         requires { RowsUpTo packet self.old }
         ensures change { self.new ≡ press_noted (ends_notes (own_channel command.now) command.now) (poly_event (own_channel command.now) command.now) packet self.old }
+        ensures order { (later : ℕ) → packet ≤ later → RowsUpTo later self.new }
         ensures stands { (channel from : ℕ) (sent : List Sent) → self.old ≡ presses_kept channel from sent
             → IsForChannel channel command.now → from ≤ packet
             → self.new ≡ presses_kept channel from (sent ++ record { packet = packet; tick = tick; command = command.now } ∷ []) }
@@ -139,6 +142,7 @@ impl PolyTable {
     /// longer coded.
     pub fn trim(&mut self, packet: u64)
         ensures change { self.new ≡ kept_since packet self.old }
+        ensures order { (later : ℕ) → RowsUpTo later self.old → RowsUpTo later self.new }
         ensures stands { (channel from : ℕ) (sent : List Sent) → self.old ≡ presses_kept channel from sent
             → from ≤ packet → self.new ≡ presses_kept channel packet sent }
     {

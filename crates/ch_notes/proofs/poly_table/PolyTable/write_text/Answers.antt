@@ -15,4 +15,4 @@ pub returns : goal.returns
 returns c =
     let row = press_row_of c.self.inside.rows in
     rw (← c.self.view_is)
-    (subst (λ (t : List ℕ). Appends c.args.out.now c.key_write.new.out t) (keys_listed press_row_logs row c.args.packet c.self.inside.recent) c.key_write.ensures)
+    (subst (λ (t : List ℕ). Appends c.args.out.now c.key_write.new.out t) (keys_listed press_row_logs row c.args.packet c.self.inside.recent) c.key_write.ensures.text)
