@@ -20,8 +20,11 @@ is_struck Other = false
 
 -- The Y bit as the high bit of an octet: the note is worth playing while it is at most 2,000 ticks old (this project's own
 -- number; RFC 6295, A.6.1 leaves it free).
+abbrev pub late_bit : (sent_at tick : ℕ) → ℕ
+late_bit sent_at tick = if nat_le tick (sent_at + 2000) then 128 else 0
+
 abbrev pub y_bit : (tick : ℕ) → Sent → ℕ
-y_bit tick place = if nat_le tick (place.tick + 2000) then 128 else 0
+y_bit tick place = late_bit place.tick tick
 
 abbrev pub event_log : (s y : ℕ) → NoteEvent → List ℕ
 event_log s y (Struck note velocity) = (s + note) ∷ (y + velocity) ∷ []

@@ -15,3 +15,13 @@ pub mod PolyLimits
 pub mod ExtraLaws
 pub mod PressLaws
 pub mod Muted
+pub mod KeptRows
+pub mod RowLaws
+pub mod Walks
+pub mod PolyTable
+pub mod PolyTableLaws
+pub mod NoteTable
+pub mod NoteTableLaws
+pub mod CountSteps
+pub mod ExtraTable
+pub mod ExtraTableLaws

@@ -52,7 +52,7 @@ fn is_muted(session: &[Sent], channel: Channel, note: D7) -> bool
 }
 
 /// The X bit as the high bit of an octet.
-fn x_bit(muted: bool) -> u8
+pub(crate) fn x_bit(muted: bool) -> u8
     ensures bit { result ≡ x_bit muted }
     ensures bound { result ≤ 128 }
 {

@@ -53,8 +53,9 @@ fn ref_count(session: &[Sent], channel: Channel, note: D7) -> u8
 }
 
 /// The logs of a struck note with this count, which has one unless the count is 1.
-fn struck_logs(note: D7, count: u8) -> PlaceLogs
-    ensures { logs_in result ≡ struck_logs note count }
+pub(crate) fn struck_logs(note: D7, count: u8) -> PlaceLogs
+    ensures logs { logs_in result ≡ struck_logs note count }
+    ensures one { length (logs_in result) ≤ 1 }
 {
     if count == 1 {
         return PlaceLogs::Empty;
@@ -67,8 +68,9 @@ fn struck_logs(note: D7, count: u8) -> PlaceLogs
 
 /// The logs of a released note with this count: the count unless it is 0, else the velocity unless it is
 /// 64. That a note has one log at most is this project's own choice.
-fn released_logs(note: D7, velocity: D7, count: u8) -> PlaceLogs
-    ensures { logs_in result ≡ released_logs note velocity count }
+pub(crate) fn released_logs(note: D7, velocity: D7, count: u8) -> PlaceLogs
+    ensures logs { logs_in result ≡ released_logs note velocity count }
+    ensures one { length (logs_in result) ≤ 1 }
 {
     if count > 0 {
         return PlaceLogs::One(Log {

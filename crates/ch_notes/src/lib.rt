@@ -7,10 +7,18 @@
 pub mod a;
 pub mod e;
 mod events;
+mod extra_table;
+mod key_logs;
 pub mod laws;
 pub mod n;
+mod note_rows;
+mod note_table;
+mod poly_table;
 mod presses;
 mod shape;
 
 pub use events::{NoteEvent, note_event};
+pub use extra_table::ExtraTable;
+pub use note_table::NoteTable;
+pub use poly_table::PolyTable;
 pub use presses::{PolyEvent, poly_event, pressed_note};

@@ -7,7 +7,7 @@ ghost use Rattle.jm_cmds.specs.History.{InOrder, standing};
 ghost use Rattle.jm_cmds.specs.Sent.{packet_of};
 ghost use Rattle.ch_notes.specs.NoteEvent.{note_ends, IsWithin, AreWithin};
 ghost use Rattle.ch_notes.specs.Count.{IsCount};
-ghost use Rattle.ch_notes.specs.ChapterN.{chapter_n, fresh_n, logs_of, event_log, y_bit};
+ghost use Rattle.ch_notes.specs.ChapterN.{chapter_n, fresh_n, logs_of, event_log, y_bit, late_bit};
 ghost use Rattle.ch_notes.specs.Shape.{counted, no_notes, span, shape_head, mark_octets};
 
 use crate::events::{NoteEvent, Notes, note_event};
@@ -39,7 +39,15 @@ fn y_bit(place: &Sent, tick: u64) -> u8
     ensures bit { result ≡ y_bit tick place.now }
     ensures bound { result ≤ 128 }
 {
-    if tick.saturating_sub(place.tick) <= 2000 {
+    late_bit(place.tick, tick)
+}
+
+/// The same of a note that was sent at this tick.
+pub(crate) fn late_bit(sent_at: u64, tick: u64) -> u8
+    ensures bit { result ≡ late_bit sent_at tick }
+    ensures bound { result ≤ 128 }
+{
+    if tick.saturating_sub(sent_at) <= 2000 {
         128
     } else {
         0
@@ -47,7 +55,7 @@ fn y_bit(place: &Sent, tick: u64) -> u8
 }
 
 /// Appends the log of this event, if it has one, with these high bits.
-fn write_note_log(event: NoteEvent, s: u8, y: u8, out: &mut Octets)
+pub(crate) fn write_note_log(event: NoteEvent, s: u8, y: u8, out: &mut Octets)
     requires within { IsWithin event }
     requires s_fits { s ≤ 128 }
     requires y_fits { y ≤ 128 }

@@ -31,8 +31,10 @@ pub(crate) struct Shape {
 
 impl Shape {
     /// No note at all.
+    #[tactic(auto, using(crate::specs::CountSteps::count_none))]
     pub(crate) fn empty() -> Shape
-        ensures { result ≡ no_notes }
+        ensures empty { result ≡ no_notes }
+        ensures count { IsCount result }
     {
         let released = [false; 128];
         Shape {
@@ -47,11 +49,13 @@ impl Shape {
     }
 
     /// Counts one more event. `is_fresh` says whether it is of the packet before.
+    #[tactic(auto, using(crate::specs::CountSteps::count_step))]
     pub(crate) fn add(&mut self, event: NoteEvent, is_fresh: bool)
         requires within { IsWithin event }
         requires logs_fit { self.old.logs + 1 < 2 ^ 64 }
         requires off_fit { self.old.off + 1 < 2 ^ 64 }
         ensures step { self.new ≡ shape_step self.old is_fresh event }
+        ensures count { IsCount self.old → self.old.logs + self.old.off ≤ 127 → IsCount self.new }
     {
         match event {
             NoteEvent::Struck { .. } => {
