@@ -5,3 +5,6 @@ pub mod Fresh
 pub mod FreshLaws
 pub mod Activity
 pub mod ActivityLaws
+pub mod Counts
+pub mod ControlTable
+pub mod TableLaws

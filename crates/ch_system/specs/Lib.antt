@@ -10,3 +10,5 @@ pub mod StateLaws
 pub mod SequencingLaws
 pub mod FrameLaws
 pub mod FreshLaws
+pub mod Tables
+pub mod TableLaws

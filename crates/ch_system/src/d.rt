@@ -61,14 +61,14 @@ impl Logs {
     }
 
     /// Whether the S of a log is 0.
-    fn is_fresh(&self) -> bool
+    pub(crate) fn is_fresh(&self) -> bool
         ensures { result ≡ logs_fresh self.now }
     {
         self.reset.fresh || self.tune.fresh || self.song.fresh
     }
 
     /// The number of the chapter's octets.
-    fn len(&self) -> usize
+    pub(crate) fn len(&self) -> usize
         ensures number { result ≡ length (logs_octets self.now) }
         ensures bound { result ≤ 4 }
     {
@@ -80,7 +80,7 @@ impl Logs {
     }
 
     /// Appends the chapter.
-    fn write(&self, out: &mut Octets)
+    pub(crate) fn write(&self, out: &mut Octets)
         requires { length (logs_octets self.now) ≤ out.old.spare }
         ensures { Appends out.old out.new (logs_octets self.now) }
     {
@@ -95,7 +95,7 @@ impl Logs {
 }
 
 /// The song that this command chooses, or 0.
-fn song_of(command: &Command) -> D7
+pub(crate) fn song_of(command: &Command) -> D7
     ensures song { result ≡ song_of command.now }
     ensures bound { result < 128 }
 {

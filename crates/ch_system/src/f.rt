@@ -11,7 +11,7 @@ use jm_cmds::{Sent, TimePart, session_history, time_code_after};
 use jm_wire::{Octets, TimeHead};
 
 /// The number of a word's octets, if it is there.
-fn word_len(word: Option<u32>) -> usize
+pub(crate) fn word_len(word: Option<u32>) -> usize
     ensures number { result ≡ length (word_octets word) }
     ensures bound { result ≤ 4 }
 {
@@ -32,7 +32,7 @@ fn write_word(word: Option<u32>, out: &mut Octets)
 }
 
 /// Appends the chapter of this time code.
-fn write_code(fresh: bool, code: &TimePart, out: &mut Octets)
+pub(crate) fn write_code(fresh: bool, code: &TimePart, out: &mut Octets)
     requires bound { code.now.point < 8 }
     requires spare { length (code_octets fresh code.now) ≤ out.old.spare }
     ensures { Appends out.old out.new (code_octets fresh code.now) }

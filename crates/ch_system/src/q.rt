@@ -11,7 +11,7 @@ use jm_cmds::{Sent, SequencerPart, sequencer_after, session_history};
 use jm_wire::{Octets, SeqHead};
 
 /// Appends the chapter of this song position.
-fn write_position(fresh: bool, state: &SequencerPart, out: &mut Octets)
+pub(crate) fn write_position(fresh: bool, state: &SequencerPart, out: &mut Octets)
     requires bound { state.now.position < 524288 }
     requires spare { length (sequencer_octets fresh state.now) ≤ out.old.spare }
     ensures { Appends out.old out.new (sequencer_octets fresh state.now) }

@@ -1,0 +1,6 @@
+use Rattle.ch_system.specs.TableLaws.{time_push}
+use Rattle.ch_system.proofs.time_table.TimeTable.note.Goals as goal
+
+pub returns-clause-stands : goal.returns-clause-stands
+returns-clause-stands c = λ from sent e l.
+    rw (c.change.ensures, e) (time_push from c.args.packet c.args.tick c.args.command.now sent l)
