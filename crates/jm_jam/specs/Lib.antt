@@ -1,3 +1,4 @@
+pub mod Crew
 pub mod Made
 pub mod Summary
 pub mod Workers
