@@ -6,3 +6,8 @@ pub mod LateLaws
 pub mod RealParams
 pub mod ParamSteps
 pub mod ParamsTold
+pub mod SelectionGiven
+pub mod SelectionSteps
+pub mod SelectionTold
+pub mod SelectionCovered
+pub mod SelectionsTold

@@ -60,6 +60,19 @@ fold-flat : {S X Y : Type 0} (step : S → Y → S) (list : X → List Y) (s : S
 fold-flat step list s [] = refl
 fold-flat step list s (x ∷ xs) = fold-append step s (list x) (flat_map list xs) ∙ fold-flat step list (fold step s (list x)) xs
 
+-- ## Where nothing is reset
+
+pub not_handed : (h : Hearing) (log : LogKind) → is_reset_log log ≡ false → reset_handed_on h log ≡ h
+not_handed h (kinds.Reset count) r = absurd (let f : true ≡ false = r in cc)
+not_handed h (kinds.Sysex count octets) r = rw r refl
+not_handed h log r = refl
+
+pub none_handed : (h : Hearing) (logs : List Log) → has_reset logs ≡ false → fold (λ g log. reset_handed_on g log.what) h logs ≡ h
+none_handed h [] r = refl
+none_handed h (log ∷ logs) r =
+    let parts = or_parts (is_reset_log log.what) (has_reset logs) r in
+    ap (λ (g : Hearing). fold (λ x y. reset_handed_on x y.what) g logs) (not_handed h log.what parts.0) ∙ none_handed h logs parts.1
+
 -- ## The logs of channels
 
 abbrev enter : (channel : ℕ) → List Entry → Log → List Entry
@@ -180,11 +193,6 @@ module _ (channel : ℕ) (l : channel < 16) (known : List Param) (few : length k
   empty_by h (kinds.Sysex count octets) r is = rw r (empty_if_new h (commands.Sysex octets) (rw r refl) is)
   empty_by h log r is = absurd (let f : false ≡ true = r in cc)
 
-  not_handed : (h : Hearing) (log : LogKind) → is_reset_log log ≡ false → reset_handed_on h log ≡ h
-  not_handed h (kinds.Reset count) r = absurd (let f : true ≡ false = r in cc)
-  not_handed h (kinds.Sysex count octets) r = rw r refl
-  not_handed h log r = refl
-
   stays_empty : (h : Hearing) (logs : List Log) → IsEmpty h.state → IsEmpty (fold (λ g log. reset_handed_on g log.what) h logs).state
   stays_empty h [] k = k
   stays_empty h (log ∷ logs) k =
@@ -203,12 +211,6 @@ module _ (channel : ℕ) (l : channel < 16) (known : List Param) (few : length k
             subst (λ (g : Hearing). IsEmpty (fold (λ x y. reset_handed_on x y.what) g logs).state) (sym (not_handed h log.what f))
             (becomes_empty h logs (rw f at r) is)
       ]
-
-  none_handed : (h : Hearing) (logs : List Log) → has_reset logs ≡ false → fold (λ g log. reset_handed_on g log.what) h logs ≡ h
-  none_handed h [] r = refl
-  none_handed h (log ∷ logs) r =
-      let parts = or_parts (is_reset_log log.what) (has_reset logs) r in
-      ap (λ (g : Hearing). fold (λ x y. reset_handed_on x y.what) g logs) (not_handed h log.what parts.0) ∙ none_handed h logs parts.1
 
   resets_track : (h : Hearing) (logs : List Log) → IsWhole h.state → (has_reset logs ≡ false → Holds known (entered_of h.state channel)) → Follow (resets_handed_on logs h) (entered_of (cleared logs h.state) channel)
   unfolding resets_handed_on

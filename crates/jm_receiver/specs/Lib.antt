@@ -51,3 +51,4 @@ pub mod HeardPackets
 pub mod StaysInStep
 pub mod Late
 pub mod ParamsHeard
+pub mod SelectionsHeard

@@ -104,7 +104,7 @@ entered_known channel checkpoint known xs k =
     coded_known channel known (coded (param_ends channel) packet_at checkpoint xs)
     (AllByRecursion-filter (λ (x : Place). IsOfKnown known (event_at channel x)) (λ (x : Place). leb checkpoint (packet_at x)) (standing (param_ends channel) xs) (standing_known channel known xs k))
 
-mapped : (P : Coded → Type 0) (Q : Log → Type 0) (log : Coded → Log) → ((e : Coded) → P e → Q (log e)) → (es : List Coded) → AllByRecursion P es → AllByRecursion Q (map log es)
+pub mapped : (P : Coded → Type 0) (Q : Log → Type 0) (log : Coded → Log) → ((e : Coded) → P e → Q (log e)) → (es : List Coded) → AllByRecursion P es → AllByRecursion Q (map log es)
 mapped P Q log h [] a = tt
 mapped P Q log h (e ∷ es) a = (h e a.0, mapped P Q log h es a.1)
 
@@ -384,7 +384,7 @@ kind_no_clear s (numbers.Kept n) value = refl
 kind_no_clear s numbers.Pedal value = refl
 kind_no_clear s (numbers.Plain n) value = refl
 
-clear_command : (channel : ℕ) (s : Selection) (command : Command) → is_clear (param_event s (param_command channel command)) ≡ is_reset command
+pub clear_command : (channel : ℕ) (s : Selection) (command : Command) → is_clear (param_event s (param_command channel command)) ≡ is_reset command
 clear_command channel s (commands.Control at number value) =
     elim (cases_Bool (eqb at channel)) [
       | inl t ↦ rw t (kind_no_clear s (control_kind number) value)

@@ -219,7 +219,7 @@ selection_same s Unselect = refl
 selection_same s Clear = refl
 selection_same s Pass = refl
 
-selected_same : (s : Option Selection) → selected_by s ≡ selected_param (selection_from s)
+pub selected_same : (s : Option Selection) → selected_by s ≡ selected_param (selection_from s)
 selected_same None = refl
 selected_same (Some s) = refl
 

@@ -14,7 +14,7 @@ use Rattle.jm_cmds.specs.declared.selection.ParamCommand.TheVariants.{Select, En
 use Rattle.jm_cmds.specs.declared.selection.Selection.{Selection}
 use Rattle.jm_cmds.specs.Control.{control_kind, is_entry, is_counted, is_reset, is_reset_message}
 use Rattle.jm_cmds.specs.ControlLaws.{is_entry_kind, is_counted_kind, is_entry-kind, is_counted-kind}
-use Rattle.jm_cmds.specs.History.{below, InOrder}
+use Rattle.jm_cmds.specs.History.{below, since, coded, InOrder}
 use Rattle.jm_cmds.specs.HistoryLaws.{InOrder-filter}
 use Rattle.jm_cmds.specs.Selection.{control_command, param_command, selection_with}
 use Rattle.jm_cmds.specs.Sent.{packet_of, is_fresh}
@@ -232,7 +232,7 @@ module _ {V : Type 0} (part : Option Selection → Option V) (says : ParamComman
   key_silent (kinds.Poly at note value) h = key.passed
   key_silent log h = refl
 
-  last_says : channel < 16 → LastSays part_of commands_say
+  pub last_says : channel < 16 → LastSays part_of commands_say
   last_says l s command is = ap part ((by_part s command is).selection channel l) ∙ key.behind (selection_of s channel) (param_command channel command)
 
   pub key_is : channel < 16 → IsPart channel selection_groups part_of key_log_says
@@ -256,7 +256,7 @@ module _ {V : Type 0} (part : Option Selection → Option V) (says : ParamComman
   abbrev controller : (number value : ℕ) → Option (Option V)
   controller number value = says (control_command (control_kind number) value)
 
-  abbrev own : Command → Option (Option V)
+  abbrev pub own : Command → Option (Option V)
   own (commands.Control at number value) = cond (eqb at channel) (controller number value) None
   own command = None
 
@@ -294,7 +294,7 @@ module _ {V : Type 0} (part : Option Selection → Option V) (says : ParamComman
       ]
   place_heard fresh session command = nothing fresh (is_reset command) session
 
-  chapter_heard : (checkpoint packet : ℕ) (sent : List Sent) → final (log_says key_log_says) (c_said channel checkpoint packet sent) ≡ final (λ place. own place.command) (coded_controls channel checkpoint packet sent)
+  pub chapter_heard : (checkpoint packet : ℕ) (sent : List Sent) → final (log_says key_log_says) (c_said channel checkpoint packet sent) ≡ final (λ place. own place.command) (coded_controls channel checkpoint packet sent)
   unfolding c_said
   chapter_heard checkpoint packet sent =
       let session = below packet_of packet sent in
@@ -392,20 +392,27 @@ module _ {V : Type 0} (part : Option Selection → Option V) (says : ParamComman
       ]
   said_so command = ended_so (is_reset command)
 
+  -- The coded controllers behind the resets say of the part what the commands from the checkpoint on say.
+  pub own_coded : (checkpoint : ℕ) (xs : List Sent) → InOrder packet_of xs →
+      over (final (λ place. own place.command) (coded (control_ends channel) packet_of checkpoint xs)) (final (λ place. ended (resets place)) (since packet_of checkpoint xs)) ≡ final (place_says commands_say) (since packet_of checkpoint xs)
+  own_coded checkpoint xs o =
+      let said_own : Sent → Option (Option V) = λ place. own place.command in
+      let reset : Sent → Option (Option V) = λ place. ended (resets place) in
+      final-coded (control_ends channel) said_own reset
+      (λ x y s e. by_set (λ (b : Bool). b ≡ true → speaks (over (said_own y) (reset y)) ≡ true) x.command y.command s (λ number value h t. covered number value y.command h t) e)
+      (λ x y s r. by_set (λ (b : Bool). b ≡ true) x.command y.command s (λ number value h. ends_reset number y.command (spoken_end (resets y) r)))
+      packet_of checkpoint xs o
+      ∙ final-same (λ place. over (said_own place) (reset place)) (place_says commands_say) (λ place. said_so place.command) (since packet_of checkpoint xs)
+
   -- The logs of a journal say of the part what the commands from the checkpoint on say.
   key_heard : channel < 16 → (checkpoint packet tick : ℕ) (sent : List Sent) → InOrder packet_of sent → journal_says key_log_says channel checkpoint packet tick sent ≡ final (place_says commands_say) (seen_since checkpoint packet sent)
   unfolding all_groups
   key_heard l checkpoint packet tick sent o =
       let seen = below packet_of packet sent in
-      let said_own : Sent → Option (Option V) = λ place. own place.command in
       let reset : Sent → Option (Option V) = λ place. ended (resets place) in
       rw (groups_heard channel selection_groups part_of key_log_says l (key_is l) checkpoint packet tick sent, resets_heard {V = V} checkpoint packet tick sent o)
       (ap (λ (a : Option (Option V)). over a (final reset (seen_since checkpoint packet sent))) (chapter_heard checkpoint packet sent)
-      ∙ final-coded (control_ends channel) said_own reset
-      (λ x y s e. by_set (λ (b : Bool). b ≡ true → speaks (over (said_own y) (reset y)) ≡ true) x.command y.command s (λ number value h t. covered number value y.command h t) e)
-      (λ x y s r. by_set (λ (b : Bool). b ≡ true) x.command y.command s (λ number value h. ends_reset number y.command (spoken_end (resets y) r)))
-      packet_of checkpoint seen (InOrder-filter packet_of _ sent o)
-      ∙ final-same (λ place. over (said_own place) (reset place)) (place_says commands_say) (λ place. said_so place.command) (seen_since checkpoint packet sent))
+      ∙ own_coded checkpoint seen (InOrder-filter packet_of _ sent o))
 
   pub key_repaired : channel < 16 → Repairs part_of
   key_repaired l = repairs channel selection_groups part_of key_log_says commands_say l (key_is l) (last_says l) (λ checkpoint packet tick sent o. key_heard l checkpoint packet tick sent o)

@@ -16,6 +16,7 @@ ghost use Rattle.jm_receiver.specs.HeardLaw.{MostPartsAreHeard};
 ghost use Rattle.jm_receiver.specs.HeardStates.{StatesAreHeard, StatesAreHeardByFresh};
 ghost use Rattle.jm_receiver.specs.HeardPackets.{PacketsAreHeard};
 ghost use Rattle.jm_receiver.specs.ParamsHeard.{ParametersAreHeard};
+ghost use Rattle.jm_receiver.specs.SelectionsHeard.{SelectionsAreHeard};
 
 /// The program of each channel is repaired, with the bank that it was chosen with.
 #[tactic(auto, using(crate::specs::ProgramLaw::program_repaired))]
@@ -197,4 +198,11 @@ pub fn late_joiners_have_values()
 /// all logs, and by the fresh ones alone where just one packet was lost.
 pub fn parameters_are_heard()
     ensures { ParametersAreHeard }
+{}
+
+/// And of selections: under the premises of `states_are_repaired` those commands leave the state with the selection of the repaired state in
+/// each channel, whatever parameters are handed on, since the selection is handed on after them. So it is by all logs, and by
+/// the fresh ones alone where just one packet was lost.
+pub fn selections_are_heard()
+    ensures { SelectionsAreHeard }
 {}
