@@ -4,3 +4,5 @@ pub mod ChapterLaws
 pub mod Limits
 pub mod Fresh
 pub mod FreshLaws
+pub mod SysexTable
+pub mod TableLaws

@@ -1,0 +1,9 @@
+use Rattle.std.proofs.Common.{ap, ◌∙◌}
+use Rattle.ch_sysex.specs.SysexTable.{SysexKept, sysex_text}
+use Rattle.ch_sysex.specs.TableLaws.{sysex_coded}
+use Rattle.ch_sysex.proofs.table.Table.write.Goals as goal
+
+pub returns-clause-stands : goal.returns-clause-stands
+returns-clause-stands c = λ from sent e h.
+    let same = ap (λ (t : SysexKept). sysex_text c.args.packet t.logs) e ∙ sysex_coded from c.args.packet sent h in
+    rw same at c.write_text.ensures
