@@ -1,15 +1,14 @@
 -- The sender's calls, put together from the single ones.
-use Rattle.std.proofs.Common.{◌≡◌, ℕ, suc, ◌+◌, ◌-◌, ◌^◌, ◌%◌, ◌≤◌, ◌<◌, min, Bool, true, false, List, [], ◌∷◌, ◌++◌, length, Option, Some, None, Result, Ok, Err, refl, sym, ap, subst, ◌∙◌, append_assoc, length-append, arith}
+use Rattle.std.proofs.Common.{◌≡◌, ℕ, ◌+◌, ◌≤◌, ◌<◌, Bool, true, false, List, [], ◌∷◌, ◌++◌, length, Result, Ok, Err, refl, sym, ap, subst, ◌∙◌, append_assoc, length-append, arith}
 use Rattle.std.proofs.lemmas.List.{append-nil}
 use Rattle.std.specs.declared.alloc.AllocError.{AllocError}
 use Rattle.jm_edge.specs.declared.Addr.{Addr}
-use Rattle.jm_edge.specs.Wire.{Letter, Wire}
+use Rattle.jm_edge.specs.Wire.{Wire}
 use Rattle.jm_wire.specs.Octets.{Filled, Appends}
 use Rattle.jm_turn.specs.declared.view.Made.{Made}
 use Rattle.jm_book.specs.declared.steps.Config.{Config}
 use Rattle.jm_book.specs.declared.steps.Step.TheVariants as step
 use Rattle.jm_book.specs.declared.answers.Cutted.TheVariants as cutted
-use Rattle.jm_book.specs.declared.answers.Gone.{Gone}
 use Rattle.jm_book.specs.declared.answers.Gone.TheVariants as gone
 use Rattle.jm_book.specs.Session.{session_of}
 use Rattle.jm_book.specs.Packet.{packet_of}
@@ -23,7 +22,7 @@ use Rattle.jm_serve.specs.declared.sender.Pumped.{Pumped}
 use Rattle.jm_serve.specs.declared.sender.Pumped.TheVariants as pumped
 use Rattle.jm_serve.specs.Exchange.{letters_to, Posts}
 use Rattle.jm_serve.specs.Acts.{Act, act, next_call, Gains, Scene, Works}
-use Rattle.jm_serve.specs.Pump.{is_due, packet_letters, leave_outcome, Departure, gone_of, departure_acts, departures_acts, Ends, Ended, CutsOnce, LeavesOnce, Departs, DepartsAll, Cuts, CutsAll, Rests, Does, settled, Pumps}
+use Rattle.jm_serve.specs.Pump.{is_due, packet_letters, Departure, gone_of, departure_acts, departures_acts, Ends, Ended, CutsOnce, LeavesOnce, Departs, DepartsAll, CutsAll, Does, settled, Pumps}
 use Rattle.jm_serve.specs.Pump.{cut_packet, tape_full, still_behind, no_room, full_then, no_room_then}
 use Rattle.jm_serve.proofs.Joins.{posts_nothing, works-then, works_nothing}
 

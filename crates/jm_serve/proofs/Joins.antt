@@ -1,17 +1,15 @@
 -- What was done first and what was done then is what was done.
-use Rattle.std.proofs.Common.{◌≡◌, ℕ, suc, ◌+◌, ◌-◌, ◌^◌, ◌%◌, ◌≤◌, ◌<◌, min, Bool, true, false, cond, List, [], ◌∷◌, ◌++◌, length, take, drop, get_or, Option, Some, None, refl, sym, ap, subst, ◌∙◌, append_assoc, length-append, arith}
+use Rattle.std.proofs.Common.{◌≡◌, ℕ, suc, ◌+◌, ◌-◌, ◌^◌, ◌%◌, ◌≤◌, ◌<◌, min, Bool, true, false, cond, List, [], ◌∷◌, ◌++◌, length, drop, get_or, Option, Some, None, refl, sym, ap, subst, ◌∙◌, append_assoc, arith}
 use Rattle.std.specs.Prelude.{IfSome}
 use Rattle.std.specs.Option.{option_map}
 use Rattle.std.proofs.lemmas.List.{append-nil}
 use Rattle.std.proofs.Math.Seq.{drop-cons}
 use Rattle.jm_edge.specs.declared.Addr.{Addr}
 use Rattle.jm_edge.specs.Faults.{Rose, one_more}
-use Rattle.jm_edge.specs.Wire.{Letter, Wire, Receives, Sends}
-use Rattle.jm_edge.specs.declared.port.Recv.TheVariants as recv
+use Rattle.jm_edge.specs.Wire.{Letter, Wire, Sends}
 use Rattle.jm_edge.specs.declared.port.Sent.TheVariants as sent
 use Rattle.jm_turn.specs.declared.view.Made.{Made}
 use Rattle.jm_turn.specs.Turns.{made, Begins}
-use Rattle.jm_turn.specs.Views.{saw, gave}
 use Rattle.jm_book.specs.declared.steps.Config.{Config}
 use Rattle.jm_book.specs.declared.steps.Step.{Step}
 use Rattle.jm_desk.specs.declared.turn.DeskTurn.{DeskTurn}
@@ -91,15 +89,15 @@ exchanges-then {xs} {ys} {ss} {ts} {old} {middle} {new} first second = record {
   counted = omega (arith, first.counted, second.counted);
 }
 
-same_letters : (o : Option (List Letter)) → o ≡ option_map (λ rest. [] ++ rest) o
+pub same_letters : (o : Option (List Letter)) → o ≡ option_map (λ rest. [] ++ rest) o
 same_letters None = refl
 same_letters (Some rest) = refl
 
-same_gone : (o : Option (List Letter)) → o ≡ option_map (λ gone. gone ++ []) o
+pub same_gone : (o : Option (List Letter)) → o ≡ option_map (λ gone. gone ++ []) o
 same_gone None = refl
 same_gone (Some gone) = ap (λ (k : List Letter). Some k) (sym (append-nil gone))
 
-none_quiet : (o : Option (List Letter)) → IfSome o (IsQuietAtEnd [])
+pub none_quiet : (o : Option (List Letter)) → IfSome o (IsQuietAtEnd [])
 none_quiet None = tt
 none_quiet (Some rest) = tt
 
@@ -234,7 +232,7 @@ gains-then {desk} {xs} {ys} {old} {middle} {new} first second =
       rest = goes_on-then old middle new first.rest second.rest;
     }
 
-gains_nothing : (desk : Shared) (pass : PassView) → Gains desk [] pass pass
+pub gains_nothing : (desk : Shared) (pass : PassView) → Gains desk [] pass pass
 gains_nothing desk pass = record {
   longer = begins_same pass.view.seen;
   own = sym (append-nil (turns_by pass.view.number pass.view.seen));

@@ -1,2 +1,4 @@
 pub mod Joins
 pub mod Departing
+pub mod Making
+pub mod Telling

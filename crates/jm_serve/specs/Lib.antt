@@ -1,3 +1,8 @@
 pub mod Exchange
 pub mod Acts
 pub mod Pump
+pub mod Moments
+pub mod Rounds
+pub mod Messages
+pub mod Control
+pub mod ServedControl

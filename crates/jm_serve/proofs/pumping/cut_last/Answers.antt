@@ -1,4 +1,3 @@
-use Rattle.jm_serve.specs.Acts.{Scene}
 use Rattle.jm_serve.proofs.Departing.{ended_packet, ended_full, ended_behind, ended_no_memory}
 use Rattle.jm_serve.proofs.pumping.cut_last.Goals as goal
 
