@@ -1,8 +1,4 @@
 // What is printed of each answer.
-use jm_script::{
-    AnswerLine, Cause, Hex, ItemList, PlayerName, Refusal, ShownFault, StatePart, answer_len,
-    write_answer,
-};
 use apple_msg::{Message, MsgFault, Name};
 use apple_session::Why;
 use jm_book::{Acted, FeedbackList};
@@ -10,6 +6,10 @@ use jm_cmds::{Channel, CmdFault, Command, D7};
 use jm_packet::PacketFault;
 use jm_reader::JournalFault;
 use jm_receiver::{AcceptFault, HeardKind};
+use jm_script::{
+    AnswerLine, Cause, Hex, ItemList, PlayerName, Refusal, ShownFault, StatePart, answer_len,
+    write_answer,
+};
 use jm_section::{Item, PartKind, SectionFault, What};
 use jm_state::{Halves, ProgramPart, Selection, SequencerPart, TimePart};
 use jm_wire::Octets;

@@ -1,9 +1,9 @@
 // What lines are, and the first fault of those outside the grammar.
-use jm_script::{Line, LineFault, LineKind, read_line};
 use LineFault::{Command as NotACommand, Form, Word};
 use apple_session::PortKind;
 use jm_cmds::{Command, ReadError};
 use jm_edge::Addr;
+use jm_script::{Line, LineFault, LineKind, read_line};
 use std::alloc::Global;
 use std::test::Fail;
 

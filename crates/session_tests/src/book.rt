@@ -1,7 +1,7 @@
 //! Worked sessions, told by an independent plain program.
-use jm_book::*;
 use apple_msg::{Message, Name};
 use apple_session::{PortKind, Why};
+use jm_book::*;
 use jm_cmds::{Channel, Command, D7};
 use jm_edge::Addr;
 use jm_wire::Octets;

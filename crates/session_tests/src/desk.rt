@@ -2,7 +2,6 @@
 ghost use Rattle.std.specs.Prelude.{◌≡◌, ◌≤◌, [], IfOk};
 ghost use Rattle.jm_desk.specs.Sharing.{IsOf};
 
-use jm_desk::*;
 use apple_msg::{Message, Name};
 use apple_session::{PortKind, Why};
 use jm_book::{
@@ -10,6 +9,7 @@ use jm_book::{
     Joined, Played, Said,
 };
 use jm_cmds::{Channel, Command, D7};
+use jm_desk::*;
 use jm_edge::Addr;
 use jm_wire::Octets;
 use std::alloc::Global;

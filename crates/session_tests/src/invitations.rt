@@ -1,8 +1,8 @@
-use apple_invite::*;
 use DialAct::{Ended, Ignored, Opened, Plain};
 use Do::{Close, Hear, Report, Time};
 use Phase::{AskCtl, AskRtp, Closed, Fresh, Open};
 use PortKind::{Ctl, Rtp};
+use apple_invite::*;
 use apple_msg::{Message, Name, read_message, write_message};
 use apple_session::PortKind;
 use jm_edge::Addr;

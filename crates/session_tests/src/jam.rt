@@ -1,7 +1,7 @@
 // What no clause says: the numbers themselves, and the printed text.
-use jm_jam::*;
 use jm_book::Step;
 use jm_cmds::{Channel, Command, D7};
+use jm_jam::*;
 use std::test::*;
 
 fn note_on(note: u8, velocity: u8) -> Command {

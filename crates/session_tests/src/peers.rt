@@ -1,5 +1,5 @@
-use apple_session::*;
 use apple_msg::{Message, Name, read_message, write_message};
+use apple_session::*;
 use jm_edge::Addr;
 use jm_wire::Octets;
 use std::alloc::Global;

@@ -3,13 +3,13 @@ ghost use Rattle.std.specs.Prelude.{◌≡◌, ◌≤◌, ◌+◌, [], length, I
 ghost use Rattle.jm_turn.specs.declared.view.Kind.TheVariants.{Opening};
 ghost use Rattle.jm_desk.specs.Sharing.{IsOf};
 
-use jm_serve::*;
 use apple_msg::{Message, Name};
 use apple_session::PortKind;
 use jm_book::{Book, Config};
 use jm_cmds::{Channel, Command, D7};
 use jm_desk::{Desk, Pass};
 use jm_edge::{Addr, FreeGate, MemPort};
+use jm_serve::*;
 use jm_wire::Octets;
 use std::alloc::Global;
 use std::sync::Wait;
