@@ -30,7 +30,7 @@ use Rattle.jm_receiver.specs.InStep.{first_lacking, CanTell, commands_in, IsOfSt
 
 -- ## The commands of a section
 
-commands_state : (s : State) (own : List Sent) → fold applied s (map (λ one. one.command) own) ≡ state_behind s own
+pub commands_state : (s : State) (own : List Sent) → fold applied s (map (λ one. one.command) own) ≡ state_behind s own
 commands_state s [] = refl
 commands_state s (one ∷ own) = commands_state (applied s one.command) own
 

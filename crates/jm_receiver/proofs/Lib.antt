@@ -11,3 +11,4 @@ pub mod SelectionSteps
 pub mod SelectionTold
 pub mod SelectionCovered
 pub mod SelectionsTold
+pub mod PacketsTold

@@ -58,7 +58,9 @@ knows_back : (channel : ℕ) (known : List Param) (xs ys : List Place) → Knows
 knows_back channel known [] ys k = k
 knows_back channel known (x ∷ xs) ys k = knows_back channel known xs ys k.1
 
-module _ (channel : ℕ) (l : channel < 16) (before after : List Sent) (s : State) (is : IsWhole s) (agrees : Agrees s before) (few : length (params_entered channel (before ++ after)) ≤ 16) where
+module _ (channel : ℕ) (l : channel < 16) (before after : List Sent) (s : State) (is : IsWhole s)
+    (chosen : selection_of s channel ≡ selection_of (state_behind no_state before) channel) (held : (nrpn : Bool) (high low : ℕ) → is_crowded channel before ≡ false → param_of s channel nrpn high low ≡ param_of (state_behind no_state before) channel nrpn high low)
+    (few : length (params_entered channel (before ++ after)) ≤ 16) where
   abbrev known : List Param
   known = params_entered channel (before ++ after)
 
@@ -84,7 +86,7 @@ module _ (channel : ℕ) (l : channel < 16) (before after : List Sent) (s : Stat
   selected = selection_places channel no_state no_selection before l no_state_is (ap (λ c. selection_from c.selection) (no_channel_at channel l))
 
   selected_too : selection_from (selection_of s channel) ≡ selection
-  selected_too = ap selection_from (agrees.selection channel l refl) ∙ selected
+  selected_too = ap selection_from chosen ∙ selected
 
   fewer : list_any (clears channel) back ≡ false → length (params_entered channel before) ≤ 16
   fewer f =
@@ -97,7 +99,7 @@ module _ (channel : ℕ) (l : channel < 16) (before after : List Sent) (s : Stat
   entered_same f p =
       let some : is_crowded channel before ≡ false = le-ltb 16 (length (params_entered channel before)) (fewer f) in
       ap (halves_in (entered_of s channel)) (sym (param_again p))
-      ∙ agrees.param channel p.nrpn p.high p.low l some
+      ∙ held p.nrpn p.high p.low some
       ∙ ap (halves_in (entered_of theirs channel)) (param_again p)
 
   holds_theirs : list_any (clears channel) back ≡ false → Holds known (entered_of theirs channel)
@@ -123,7 +125,8 @@ module _ (channel : ℕ) (l : channel < 16) (before after : List Sent) (s : Stat
       ∙ sym (ap read (entered_places channel theirs selection after l (behind_is no_state before no_state_is) selected))
       ∙ ap (read_half channel p half) (sym (fold-append (λ (t : State) (x : Sent). applied t x.command) no_state before after))
 
-  param_along : (nrpn : Bool) (high low : ℕ) → param_of (state_behind s after) channel nrpn high low ≡ param_of (state_behind no_state (before ++ after)) channel nrpn high low
+  -- where the state has the selection and the parameters that the first commands leave
+  pub param_along : (nrpn : Bool) (high low : ℕ) → param_of (state_behind s after) channel nrpn high low ≡ param_of (state_behind no_state (before ++ after)) channel nrpn high low
   param_along nrpn high low =
       let p = param nrpn high low in
       same_halves (halves_in (entered_of (state_behind s after) channel) p) (halves_in (entered_of (state_behind no_state (before ++ after)) channel) p) (half_along p true) (half_along p false)
@@ -146,7 +149,7 @@ commands_agree before after s is agrees =
       control = λ channel number l k n. (a.channels channel l).control number k;
       toggles = λ channel l n. (a.channels channel l).toggles;
       selection = λ channel l n. (a.channels channel l).selection;
-      param = λ channel nrpn high low l n. param_along channel l before after s is agrees (few_of channel (before ++ after) n) nrpn high low;
+      param = λ channel nrpn high low l n. param_along channel l before after s is (agrees.selection channel l refl) (λ kind above below some. agrees.param channel kind above below l some) (few_of channel (before ++ after) n) nrpn high low;
       wheel = λ channel l n. (a.channels channel l).wheel;
       note = λ channel note l k n. (a.channels channel l).note note k;
       pressure = λ channel l n. (a.channels channel l).pressure;

@@ -52,3 +52,4 @@ pub mod StaysInStep
 pub mod Late
 pub mod ParamsHeard
 pub mod SelectionsHeard
+pub mod PacketsTell

@@ -17,6 +17,7 @@ ghost use Rattle.jm_receiver.specs.HeardStates.{StatesAreHeard, StatesAreHeardBy
 ghost use Rattle.jm_receiver.specs.HeardPackets.{PacketsAreHeard};
 ghost use Rattle.jm_receiver.specs.ParamsHeard.{ParametersAreHeard};
 ghost use Rattle.jm_receiver.specs.SelectionsHeard.{SelectionsAreHeard};
+ghost use Rattle.jm_receiver.specs.PacketsTell.{PacketsTellParams};
 
 /// The program of each channel is repaired, with the bank that it was chosen with.
 #[tactic(auto, using(crate::specs::ProgramLaw::program_repaired))]
@@ -205,4 +206,12 @@ pub fn parameters_are_heard()
 /// the fresh ones alone where just one packet was lost.
 pub fn selections_are_heard()
     ensures { SelectionsAreHeard }
+{}
+
+/// What a receiver in step hears of a later packet of the stream, each command played in order into its old state, gives the new one's
+/// selections, too, and its parameters in each channel in which at most 16 different ones were entered since the last Reset State
+/// command: whatever was lost before the packet. The premises are those of `receivers_come_in_step`. With `packets_are_heard` it leaves
+/// song position, time code and the pedal's toggles alone untold.
+pub fn packets_tell_parameters()
+    ensures { PacketsTellParams }
 {}
