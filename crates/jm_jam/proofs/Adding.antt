@@ -1,5 +1,5 @@
 -- The turns that a pass made, put together from its single calls.
-use Rattle.std.proofs.Common.{◌≡◌, ℕ, suc, ◌+◌, Bool, true, false, List, [], ◌∷◌, ◌++◌, length, refl, sym, ap, subst, ◌∙◌, arith, append_assoc, length-append}
+use Rattle.std.proofs.Common.{◌≡◌, ℕ, suc, ◌+◌, true, false, List, [], ◌∷◌, ◌++◌, length, refl, sym, ap, subst, ◌∙◌, arith, append_assoc, length-append}
 use Rattle.std.proofs.lemmas.List.{append-nil}
 use Rattle.jm_cmds.specs.declared.commands.Command.{Command}
 use Rattle.jm_turn.specs.declared.view.Made.{Made}
@@ -15,11 +15,11 @@ use Rattle.jm_desk.specs.declared.turn.Outcome.{Outcome}
 use Rattle.jm_desk.specs.declared.turn.Outcome.TheVariants as outcome
 use Rattle.jm_desk.specs.History.{turned, before_last}
 use Rattle.jm_desk.specs.OwnTurns.{turns_by}
-use Rattle.jm_desk.specs.Sharing.{Shared, PassView, OwnsPlaces, MakesTurn}
+use Rattle.jm_desk.specs.Sharing.{Shared, PassView, MakesTurn}
 use Rattle.jm_desk.specs.SharingLaws.{adds_own}
 use Rattle.jm_jam.specs.Made.{made as command_of, tick_at}
-use Rattle.jm_jam.specs.Workers.{play_turn, cut_turn, ack_turn, needs_cut, PlaysStep, PlaysSteps, next_report, report_after, report_turns, Reports, cut_turns, Cuts, GoesOn, Adds, Worked}
-use Rattle.jm_jam.specs.Workers.{settled, not_cut, cut_first}
+use Rattle.jm_jam.specs.Workers.{play_turn, cut_turn, ack_turn, needs_cut, PlaysStep, next_report, report_after, report_turns, Reports, cut_turns, Cuts, GoesOn, Adds, Worked}
+use Rattle.jm_jam.specs.Workers.{cut_first}
 use Rattle.jm_jam.specs.Working.{GoesBefore, Trying, Playing, Reporting, Cutting}
 
 -- ---- turns

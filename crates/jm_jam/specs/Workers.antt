@@ -1,5 +1,5 @@
 -- What the workers of a jam do at the desk: the turns of each, by what its calls were answered.
-use Rattle.std.specs.Prelude.{◌≡◌, ℕ, zero, suc, ◌+◌, ◌%◌, Bool, true, false, IsTrue, List, [], ◌∷◌, ◌++◌, length, Option, Some, None}
+use Rattle.std.specs.Prelude.{◌≡◌, ℕ, zero, suc, ◌+◌, ◌%◌, Bool, true, false, IsTrue, List, [], ◌∷◌, ◌++◌, length, Some, None}
 use Rattle.jm_cmds.specs.declared.commands.Command.{Command}
 use Rattle.jm_turn.specs.Turns.{Begins}
 use Rattle.jm_book.specs.declared.steps.Step.TheVariants as step

@@ -1,11 +1,10 @@
-use Rattle.std.proofs.Common.{◌≡◌, ◌∙◌, Bool, true, false, [], ◌∷◌, sym, ap}
+use Rattle.std.proofs.Common.{◌∙◌, [], ◌∷◌, sym, ap}
 use Rattle.jm_book.specs.declared.steps.Step.TheVariants as step
-use Rattle.jm_book.specs.declared.answers.Cutted.{Cutted}
 use Rattle.jm_book.specs.Answers.{is_packet}
 use Rattle.jm_desk.specs.declared.turn.Outcome.TheVariants as outcome
 use Rattle.jm_desk.specs.History.{turned}
 use Rattle.jm_jam.specs.Made.{made, tick_at}
-use Rattle.jm_jam.specs.Workers.{play_turn, cut_turn, Adds}
+use Rattle.jm_jam.specs.Workers.{play_turn, cut_turn}
 use Rattle.jm_jam.specs.Workers.{settled, not_cut}
 use Rattle.jm_jam.proofs.Adding.{adds_call, adds_then, play_adds, cut_adds, goes_packet}
 use Rattle.jm_jam.proofs.player.try_once.Goals as goal
