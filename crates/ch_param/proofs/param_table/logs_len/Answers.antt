@@ -11,18 +11,17 @@ loop-row-preserved c =
     let later = c.in-Some.later.now in
     let last : last_halves c.loop-row.rest.now ≡ row ∷ last_halves later = c.in-Some.ensures.last in
     let fewer : length later < length c.loop-row.rest.now = c.in-Some.ensures.fewer in
-    let count = ap (λ (rows : List HalfRow). length rows) last in
-    (
+    let count = ap (λ (rows : List HalfRow). length rows) last in (
       λ packet. (
-      let all = ap (λ (rows : List HalfRow). length (flat_map (row_log packet halves) rows)) last in
-      omega (
-        arith,
-        all,
-        length-append (row_log packet halves row) (flat_map (row_log packet halves) (last_halves later)),
-        c.loop-row.invariant.0 packet,
-        c.log_len-len.ensures.number packet,
-      )
-      ),
+          let all = ap (λ (rows : List HalfRow). length (flat_map (row_log packet halves) rows)) last in
+          omega (
+            arith,
+            all,
+            length-append (row_log packet halves row) (flat_map (row_log packet halves) (last_halves later)),
+            c.loop-row.invariant.0 packet,
+            c.log_len-len.ensures.number packet,
+          )
+          ),
       omega (arith, fewer, c.loop-row.invariant.1, c.log_len-len.ensures.bound),
-      omega (arith, count, c.loop-row.invariant.2, c.log_len-len.ensures.bound)
+      omega (arith, count, c.loop-row.invariant.2, c.log_len-len.ensures.bound),
     )
