@@ -11,3 +11,5 @@ pub mod Limits
 pub mod Fits
 pub mod InOrder
 pub mod OrderLaws
+pub mod ParamTable
+pub mod ParamTableLaws

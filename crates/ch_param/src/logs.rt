@@ -13,10 +13,10 @@ use jm_wire::Octets;
 
 /// A parameter with its coded halves.
 #[derive(Clone, Copy)]
-struct Log {
-    param: Param,
-    high: Option<D7>,
-    low: Option<D7>,
+pub(crate) struct Log {
+    pub(crate) param: Param,
+    pub(crate) high: Option<D7>,
+    pub(crate) low: Option<D7>,
 }
 
 impl Log {
@@ -34,7 +34,7 @@ impl Log {
     }
 
     /// The number of the log's octets, from 3 to 5.
-    fn len(&self) -> usize
+    pub(crate) fn len(&self) -> usize
         ensures number { (s : ℕ) → result ≡ length (param_log s self.now.param self.now.high self.now.low) }
         ensures bound { result ≤ 5 }
     {
@@ -51,7 +51,7 @@ impl Log {
     }
 
     /// Appends the log, with this S as the high bit of its first octet.
-    fn write(&self, s: u8, out: &mut Octets)
+    pub(crate) fn write(&self, s: u8, out: &mut Octets)
         requires s_fits { s ≤ 128 }
         requires spare { length (param_log s self.now.param self.now.high self.now.low) ≤ out.old.spare }
         ensures { Appends out.old out.new (param_log s self.now.param self.now.high self.now.low) }

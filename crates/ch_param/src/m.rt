@@ -13,8 +13,8 @@ use jm_cmds::{Channel, D7, Param, Sent, session_history};
 use jm_wire::{Octets, ParamHead};
 
 /// Appends the chapter's header, where its logs have this many octets.
-fn write_head(fresh: bool, logs: usize, out: &mut Octets)
-    requires few { logs ≤ 80 }
+pub(crate) fn write_head(fresh: bool, logs: usize, out: &mut Octets)
+    requires few { logs ≤ 160 }
     requires spare { 2 ≤ out.old.spare }
     ensures { Appends out.old out.new (param_octets (param_head fresh logs)) }
 {
