@@ -17,37 +17,13 @@ use Rattle.apple_invite.specs.Machine.{Call, ticks, closes, on_close, step}
 use Rattle.apple_invite.specs.declared.stage.Stage.{Stage}
 use Rattle.apple_invite.specs.declared.stage.Stage.TheVariants.{Fresh, AskCtl, AskRtp, Open, Closed}
 use Rattle.apple_invite.specs.Calls.{after_call, after}
-use Rattle.apple_call.specs.Exchange.{Sending, went, lost, letters, taken, IsQuietAtEnd, Exchanges, Breaks}
+use Rattle.jm_edge.specs.Exchange.{letters_in, Exchanges}
+use Rattle.jm_edge.specs.ExchangeLaws.{letters_in-append, exchanges-then, exchanges_nothing}
+use Rattle.jm_edge.specs.MomentLaws.{gave-then}
 use Rattle.apple_invite.specs.declared.dialed.Dialed.{Dialed}
-use Rattle.apple_call.specs.Turns.{letters_on, letters_of, clocks_by, clocks_of, message_of, hearing, Turn, first_calls, turn_calls, calls_of, moments_of, control_givens, data_givens, Posts, Goes, Does, AreFirst, coming_behind, Gave, Scene, Plays, MadeAll, ControlBroke, DataBroke}
+use Rattle.apple_call.specs.Turns.{letters_on, letters_of, clocks_by, clocks_of, message_of, hearing, Turn, first_calls, turn_calls, calls_of, moments_of, control_givens, data_givens, Posts, Goes, Does, Scene, Plays, MadeAll, ControlBroke, DataBroke}
 
 -- ---- lists
-
-went-append : (xs ys : List Sending) → went (xs ++ ys) ≡ went xs ++ went ys
-went-append [] ys = refl
-went-append (x ∷ xs) ys = elim x.is_lost as (λ (b : Bool). cond b (went (xs ++ ys)) (x.letter ∷ went (xs ++ ys)) ≡ cond b (went xs) (x.letter ∷ went xs) ++ went ys) [
-  | true ↦ went-append xs ys
-  | false ↦ ap (λ (k : List Letter). x.letter ∷ k) (went-append xs ys)
-]
-
-lost-append : (xs ys : List Sending) → lost (xs ++ ys) ≡ lost xs + lost ys
-lost-append [] ys = omega arith
-lost-append (x ∷ xs) ys = omega (arith, lost-append xs ys)
-
-letters-append : (xs ys : List Sending) → letters (xs ++ ys) ≡ letters xs ++ letters ys
-letters-append [] ys = refl
-letters-append (x ∷ xs) ys = ap (λ (k : List Letter). x.letter ∷ k) (letters-append xs ys)
-
-taken-append : (xs ys : List (Option Letter)) → taken (xs ++ ys) ≡ taken xs ++ taken ys
-taken-append [] ys = refl
-taken-append (Some x ∷ xs) ys = ap (λ (k : List Letter). x ∷ k) (taken-append xs ys)
-taken-append (None ∷ xs) ys = taken-append xs ys
-
-quiet-append : (xs ys : List (Option Letter)) (rest : List Letter) → IsQuietAtEnd xs (taken ys ++ rest) → IsQuietAtEnd ys rest → IsQuietAtEnd (xs ++ ys) rest
-quiet-append [] ys rest first second = second
-quiet-append (Some x ∷ xs) ys rest first second = quiet-append xs ys rest first second
-quiet-append (None ∷ xs) ys rest first second =
-    ap (λ (k : List Letter). k ++ rest) (taken-append xs ys) ∙ append_assoc (taken xs) (taken ys) rest ∙ first
 
 letters_of-append : (port : PortKind) (to : Addr) (caller : Caller) (xs ys : List Call) → letters_of port to caller (xs ++ ys) ≡ letters_of port to caller xs ++ letters_of port to (after caller xs) ys
 letters_of-append port to caller [] ys = refl
@@ -60,67 +36,13 @@ clocks_of-append : (caller : Caller) (xs ys : List Call) → clocks_of caller (x
 clocks_of-append caller [] ys = omega arith
 clocks_of-append caller (x ∷ xs) ys = omega (arith, clocks_of-append (after_call caller x) xs ys)
 
--- ---- through one port
-
-takes-then : (xs ys : List (Option Letter)) (old middle new : Option (List Letter)) → old ≡ option_map (λ rest. taken xs ++ rest) middle → middle ≡ option_map (λ rest. taken ys ++ rest) new
-    → old ≡ option_map (λ rest. taken (xs ++ ys) ++ rest) new
-takes-then xs ys old middle None a b = a ∙ ap (λ (o : Option (List Letter)). option_map (λ rest. taken xs ++ rest) o) b
-takes-then xs ys old middle (Some rest) a b =
-    a ∙ ap (λ (o : Option (List Letter)). option_map (λ rest. taken xs ++ rest) o) b
-    ∙ ap (λ (k : List Letter). Some k) (sym (append_assoc (taken xs) (taken ys) rest) ∙ ap (λ (k : List Letter). k ++ rest) (sym (taken-append xs ys)))
-
-quiet-then : (xs ys : List (Option Letter)) (middle new : Option (List Letter)) → middle ≡ option_map (λ rest. taken ys ++ rest) new → IfSome middle (IsQuietAtEnd xs) → IfSome new (IsQuietAtEnd ys) → IfSome new (IsQuietAtEnd (xs ++ ys))
-quiet-then xs ys middle None e first second = tt
-quiet-then xs ys middle (Some rest) e first second =
-    quiet-append xs ys rest (subst (λ (o : Option (List Letter)). IfSome o (IsQuietAtEnd xs)) e first) second
-
-adds-then : (xs ys : List Sending) (old middle new : Option (List Letter)) → middle ≡ option_map (λ gone. gone ++ went xs) old → new ≡ option_map (λ gone. gone ++ went ys) middle → new ≡ option_map (λ gone. gone ++ went (xs ++ ys)) old
-adds-then xs ys None middle new a b = b ∙ ap (λ (o : Option (List Letter)). option_map (λ gone. gone ++ went ys) o) a
-adds-then xs ys (Some gone) middle new a b =
-    b ∙ ap (λ (o : Option (List Letter)). option_map (λ gone. gone ++ went ys) o) a
-    ∙ ap (λ (k : List Letter). Some k) (append_assoc gone (went xs) (went ys) ∙ ap (λ (k : List Letter). gone ++ k) (sym (went-append xs ys)))
-
-missing-then : (a b c x y z : ℕ) → z ≡ x + y → min (a + x) (2 ^ 64 - 1) ≤ b → min (b + y) (2 ^ 64 - 1) ≤ c → min (a + z) (2 ^ 64 - 1) ≤ c
-missing-then a b c x y z e f g = omega arith
-
-pub exchanges-then : {xs ys : List (Option Letter)} {ss ts : List Sending} {old middle new : Wire} → Exchanges xs ss old middle → Exchanges ys ts middle new → Exchanges (xs ++ ys) (ss ++ ts) old new
-exchanges-then {xs} {ys} {ss} {ts} {old} {middle} {new} first second = record {
-  takes = takes-then xs ys old.arriving middle.arriving new.arriving first.takes second.takes;
-  quiet = quiet-then xs ys middle.arriving new.arriving second.takes first.quiet second.quiet;
-  adds = adds-then ss ts old.gone middle.gone new.gone first.adds second.adds;
-  missing = missing-then old.send_faults middle.send_faults new.send_faults (lost ss) (lost ts) (lost (ss ++ ts)) (lost-append ss ts) first.missing second.missing;
-  counted = omega (arith, first.counted, second.counted);
-}
-
-same_letters : (o : Option (List Letter)) → o ≡ option_map (λ rest. [] ++ rest) o
-same_letters None = refl
-same_letters (Some rest) = refl
-
-same_gone : (o : Option (List Letter)) → o ≡ option_map (λ gone. gone ++ []) o
-same_gone None = refl
-same_gone (Some gone) = ap (λ (k : List Letter). Some k) (sym (append-nil gone))
-
-none_quiet : (o : Option (List Letter)) → IfSome o (IsQuietAtEnd [])
-none_quiet None = tt
-none_quiet (Some rest) = tt
-
--- nothing went through
-pub exchanges_nothing : (wire : Wire) → Exchanges [] [] wire wire
-exchanges_nothing wire = record {
-  takes = same_letters wire.arriving;
-  quiet = none_quiet wire.arriving;
-  adds = same_gone wire.gone;
-  missing = omega arith;
-  counted = omega arith;
-}
-
 -- ---- through both
 
 goes-then : {port : PortKind} {to : Addr} {cs ds : List Call} {xs ys : List (Option Letter)} {caller : Caller} {old middle new : Wire}
     → Goes port to cs xs caller old middle → Goes port to ds ys (after caller cs) middle new → Goes port to (cs ++ ds) (xs ++ ys) caller old new
 goes-then {port} {to} {cs} {ds} {xs} {ys} {caller} first second = record {
   sendings = first.sendings ++ second.sendings;
-  given = letters-append first.sendings second.sendings ∙ ap (λ (k : List Letter). k ++ letters second.sendings) first.given ∙ ap (λ (k : List Letter). letters_of port to caller cs ++ k) second.given ∙ sym (letters_of-append port to caller cs ds);
+  given = letters_in-append first.sendings second.sendings ∙ ap (λ (k : List Letter). k ++ letters_in second.sendings) first.given ∙ ap (λ (k : List Letter). letters_of port to caller cs ++ k) second.given ∙ sym (letters_of-append port to caller cs ds);
   exchanges = exchanges-then first.exchanges second.exchanges;
 }
 
@@ -136,78 +58,6 @@ does-then {cs} {ds} {xs} {ys} {us} {vs} {m} {n} {to} {caller} {next} {last} {a} 
       on_control = goes-then first.on_control then_control;
       on_data = goes-then first.on_data then_data;
     }
-
--- ---- the single steps
-
-pub posts_gone : (letter : Letter) (old new : Wire) → Sends sent.Gone letter old new → Exchanges [] (record { letter = letter; is_lost = false } ∷ []) old new
-posts_gone letter old new s = record {
-  takes = subst (λ (o : Option (List Letter)). old.arriving ≡ option_map (λ rest. [] ++ rest) o) (sym s.arriving) (same_letters old.arriving);
-  quiet = none_quiet new.arriving;
-  adds = s.adds;
-  missing = omega (arith, s.counted);
-  counted = omega (arith, s.receives);
-}
-
-missing_one : (old new : ℕ) → old ≤ new → Rose old new → min (old + 1) (2 ^ 64 - 1) ≤ new
-missing_one old new counted rose = grind (arith, counted, rose)
-
-pub posts_lost : (letter : Letter) (old new : Wire) → Sends sent.Failed letter old new → Exchanges [] (record { letter = letter; is_lost = true } ∷ []) old new
-posts_lost letter old new s = record {
-  takes = subst (λ (o : Option (List Letter)). old.arriving ≡ option_map (λ rest. [] ++ rest) o) (sym s.arriving) (same_letters old.arriving);
-  quiet = none_quiet new.arriving;
-  adds = s.adds ∙ same_gone old.gone;
-  missing = missing_one old.send_faults new.send_faults s.counted s.failed;
-  counted = omega (arith, s.receives);
-}
-
-one_letter : (letter : Letter) (old new : Option (List Letter)) → old ≡ option_map (λ rest. letter ∷ rest) new → old ≡ option_map (λ rest. taken (Some letter ∷ []) ++ rest) new
-one_letter letter old None e = e
-one_letter letter old (Some rest) e = e
-
-one_quiet : (letter : Letter) (new : Option (List Letter)) → IfSome new (IsQuietAtEnd (Some letter ∷ []))
-one_quiet letter None = tt
-one_quiet letter (Some rest) = tt
-
-still_gone : (old new : Option (List Letter)) → new ≡ old → new ≡ option_map (λ gone. gone ++ []) old
-still_gone old new e = e ∙ same_gone old
-
-pub takes_one : (len : ℕ) (from : Addr) (buffer : List ℕ) (old new : Wire) → Receives (recv.Got len from) buffer old new → Exchanges (Some (record { addr = from; octets = take len buffer }) ∷ []) [] old new
-takes_one len from buffer old new r = record {
-  takes = one_letter (record { addr = from; octets = take len buffer }) old.arriving new.arriving r.takes;
-  quiet = one_quiet (record { addr = from; octets = take len buffer }) new.arriving;
-  adds = still_gone old.gone new.gone r.gone;
-  missing = omega (arith, r.sends);
-  counted = r.counted;
-}
-
-nothing_there : (old new : Option (List Letter)) → new ≡ old → IfSome old (λ rest. rest ≡ []) → IfSome new (IsQuietAtEnd (None ∷ []))
-nothing_there old None e h = tt
-nothing_there None (Some rest) e h = absurd cc
-nothing_there (Some left) (Some rest) e h = let same : rest ≡ left = cc in same ∙ h
-
-same_arriving : (old new : Option (List Letter)) → new ≡ old → old ≡ option_map (λ rest. [] ++ rest) new
-same_arriving old new e = sym e ∙ same_letters new
-
-pub takes_none : (buffer : List ℕ) (old new : Wire) → Receives recv.Quiet buffer old new → Exchanges (None ∷ []) [] old new
-takes_none buffer old new r = record {
-  takes = same_arriving old.arriving new.arriving r.takes.0;
-  quiet = nothing_there old.arriving new.arriving r.takes.0 r.takes.1;
-  adds = still_gone old.gone new.gone r.gone;
-  missing = omega (arith, r.sends);
-  counted = r.counted;
-}
-
-pub takes_nothing : (buffer : List ℕ) (old new : Wire) → Receives recv.Failed buffer old new → Breaks old new
-takes_nothing buffer old new r = record {
-  nothing = record {
-    takes = same_arriving old.arriving new.arriving r.takes;
-    quiet = none_quiet new.arriving;
-    adds = still_gone old.gone new.gone r.gone;
-    missing = omega (arith, r.sends);
-    counted = r.counted;
-  };
-  rose = r.failed;
-}
 
 -- ---- one call
 
@@ -259,53 +109,6 @@ does_control to caller givens a b c e = record { caller_is = refl; clocks_are = 
 
 pub does_data : (to : Addr) (caller : Caller) (givens : List (Option Letter)) (a c d : Wire) → Exchanges givens [] c d → Does [] [] givens 0 to caller caller a a c d
 does_data to caller givens a c d e = record { caller_is = refl; clocks_are = refl; on_control = goes_nothing Ctl to caller a; on_data = goes_given Rtp to caller givens c d e }
-
--- ---- the clock
-
-first-append : (xs ys : List ℕ) (coming : ℕ → ℕ) → AreFirst xs coming → AreFirst ys (coming_behind xs coming) → AreFirst (xs ++ ys) coming
-first-append [] ys coming first second = second
-first-append (x ∷ xs) ys coming first second = (first.0, first-append xs ys (later coming) first.1 second)
-
-coming_behind-append : (xs ys : List ℕ) (coming : ℕ → ℕ) → coming_behind (xs ++ ys) coming ≡ coming_behind ys (coming_behind xs coming)
-coming_behind-append [] ys coming = refl
-coming_behind-append (x ∷ xs) ys coming = coming_behind-append xs ys (later coming)
-
-first-then : (xs ys : List ℕ) (old middle : Option (ℕ → ℕ)) → middle ≡ option_map (coming_behind xs) old → IfSome old (AreFirst xs) → IfSome middle (AreFirst ys) → IfSome old (AreFirst (xs ++ ys))
-first-then xs ys None middle e first second = tt
-first-then xs ys (Some coming) middle e first second =
-    first-append xs ys coming first (subst (λ (o : Option (ℕ → ℕ)). IfSome o (AreFirst ys)) e second)
-
-others-then : (xs ys : List ℕ) (old : Option (ℕ → ℕ)) → option_map (coming_behind ys) (option_map (coming_behind xs) old) ≡ option_map (coming_behind (xs ++ ys)) old
-others-then xs ys None = refl
-others-then xs ys (Some coming) = ap (λ (k : ℕ → ℕ). Some k) (sym (coming_behind-append xs ys coming))
-
-pub gave-then : {xs ys : List ℕ} {old middle new : Option (ℕ → ℕ)} → Gave xs old middle → Gave ys middle new → Gave (xs ++ ys) old new
-gave-then {xs} {ys} {old} {middle} {new} first second = record {
-  first = first-then xs ys old middle first.others first.first second.first;
-  others = second.others ∙ ap (λ (o : Option (ℕ → ℕ)). option_map (coming_behind ys) o) first.others ∙ others-then xs ys old;
-}
-
-gave_first : (moment : ℕ) (old : Option (ℕ → ℕ)) → IfSome old (λ coming. moment ≡ coming 0) → IfSome old (AreFirst (moment ∷ []))
-gave_first moment None h = tt
-gave_first moment (Some coming) h = (h, tt)
-
-gave_others : (moment : ℕ) (old : Option (ℕ → ℕ)) → option_map later old ≡ option_map (coming_behind (moment ∷ [])) old
-gave_others moment None = refl
-gave_others moment (Some coming) = refl
-
-pub gave_one : (moment : ℕ) (old new : Option (ℕ → ℕ)) → Ticks moment old new → Gave (moment ∷ []) old new
-gave_one moment old new t = record { first = gave_first moment old t.first; others = t.others ∙ gave_others moment old }
-
-gave_same : (old : Option (ℕ → ℕ)) → old ≡ option_map (coming_behind []) old
-gave_same None = refl
-gave_same (Some coming) = refl
-
-gave_quiet : (old : Option (ℕ → ℕ)) → IfSome old (AreFirst [])
-gave_quiet None = tt
-gave_quiet (Some coming) = tt
-
-pub gave_nothing : (old : Option (ℕ → ℕ)) → Gave [] old old
-gave_nothing old = record { first = gave_quiet old; others = gave_same old }
 
 -- ---- turns
 

@@ -3,7 +3,7 @@ use Rattle.std.specs.Prelude.{◌≡◌, [], ◌∷◌, Option}
 use Rattle.jm_edge.specs.declared.Addr.{Addr}
 use Rattle.jm_edge.specs.Wire.{Letter, Wire}
 use Rattle.apple_msg.specs.declared.message.Message.{Message}
-use Rattle.apple_call.specs.Exchange.{Exchanges}
+use Rattle.jm_edge.specs.Exchange.{Exchanges}
 use Rattle.apple_call.specs.Turns.{message_of}
 
 -- a datagram or none, and what it says

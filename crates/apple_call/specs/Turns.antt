@@ -22,7 +22,8 @@ use Rattle.apple_invite.specs.Calls.{after_call, after}
 use Rattle.apple_call.specs.declared.turns.TurnsEnd.{TurnsEnd}
 use Rattle.apple_call.specs.declared.turns.TurnsEnd.TheVariants.{Made, ControlFailed, DataFailed}
 use Rattle.jm_edge.specs.Faults.{Rose}
-use Rattle.apple_call.specs.Exchange.{Sending, letters, Exchanges}
+use Rattle.jm_edge.specs.Exchange.{Sending, letters_in, Exchanges}
+use Rattle.jm_edge.specs.Moments.{Gave}
 
 -- ---- what the calls of an inviter send and compare
 
@@ -101,13 +102,13 @@ data_givens (turn ∷ turns) = turn.rtp ∷ data_givens turns
 -- what one call gave for a port went through it
 pub record Posts (port : PortKind) (to : Addr) (send : Option (PortKind × Message)) (old new : Wire) : Type 0 where
   pub sendings : List Sending
-  pub given : letters sendings ≡ letters_on port to send
+  pub given : letters_in sendings ≡ letters_on port to send
   pub exchanges : Exchanges [] sendings old new
 
 -- what calls gave for a port went through it, with what it gave
 pub record Goes (port : PortKind) (to : Addr) (calls : List Call) (givens : List (Option Letter)) (caller : Caller) (old new : Wire) : Type 0 where
   pub sendings : List Sending
-  pub given : letters sendings ≡ letters_of port to caller calls
+  pub given : letters_in sendings ≡ letters_of port to caller calls
   pub exchanges : Exchanges givens sendings old new
 
 -- These calls were made, and each port gave this.
@@ -125,24 +126,9 @@ closing phase.AskCtl = closes ∷ []
 closing phase.AskRtp = closes ∷ []
 closing phase.Open = closes ∷ []
 
--- ---- the clock
-
-abbrev pub AreFirst : List ℕ → (coming : ℕ → ℕ) → Type 0
-AreFirst [] coming = Unit {0}
-AreFirst (moment ∷ moments) coming = (moment ≡ coming 0) × AreFirst moments (later coming)
-
-abbrev pub coming_behind : List ℕ → (coming : ℕ → ℕ) → (ℕ → ℕ)
-coming_behind [] coming = coming
-coming_behind (moment ∷ moments) coming = coming_behind moments (later coming)
-
--- the clock gave these moments, which are the first of those that it tells
-pub record Gave (moments : List ℕ) (old new : Option (ℕ → ℕ)) : Type 0 where
-  pub first : IfSome old (AreFirst moments)
-  pub others : new ≡ option_map (coming_behind moments) old
-
 -- ---- the ends
 
--- what there is before and coming_behind some calls: an inviter, two ports and a clock
+-- what there is before and behind some calls: an inviter, two ports and a clock
 pub record Scene : Type 0 where
   pub caller : Caller
   pub control : Wire

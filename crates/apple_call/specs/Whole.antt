@@ -10,7 +10,8 @@ use Rattle.apple_invite.specs.declared.dialed.Phase.{Phase}
 use Rattle.apple_invite.specs.Calls.{after}
 use Rattle.apple_call.specs.declared.turns.TurnsEnd.{TurnsEnd}
 use Rattle.apple_call.specs.declared.turns.TurnsEnd.TheVariants.{Made, ControlFailed, DataFailed}
-use Rattle.apple_call.specs.Turns.{clocks_of, Turn, first_calls, calls_of, moments_of, control_givens, data_givens, Goes, closing, Gave}
+use Rattle.apple_call.specs.Turns.{clocks_of, Turn, first_calls, calls_of, moments_of, control_givens, data_givens, Goes, closing}
+use Rattle.jm_edge.specs.Moments.{Gave}
 
 -- what a call goes through: two ports and a clock
 pub record Outside : Type 0 where

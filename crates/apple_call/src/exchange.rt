@@ -1,7 +1,8 @@
 // One datagram through a port.
 ghost use Rattle.std.specs.Prelude.{◌≡◌, ◌+◌, ◌≤◌, [], ◌∷◌, length, IfOk, OnErr};
 ghost use Rattle.apple_msg.specs.Spelling.{text};
-ghost use Rattle.apple_call.specs.Exchange.{Exchanges, Breaks};
+ghost use Rattle.apple_call.specs.Exchange.{Breaks};
+ghost use Rattle.jm_edge.specs.Exchange.{Exchanges};
 ghost use Rattle.apple_call.specs.Hears.{Hears};
 
 use apple_msg::{Message, read_message, write_message};

@@ -5,7 +5,8 @@ ghost use Rattle.jm_edge.specs.Ticks.{Ticks};
 ghost use Rattle.apple_session.specs.declared.answer.PortKind.TheVariants.{Ctl, Rtp};
 ghost use Rattle.apple_invite.specs.Caller.{address_of, phase_of};
 ghost use Rattle.apple_invite.specs.Machine.{ticks, closes};
-ghost use Rattle.apple_call.specs.Exchange.{Exchanges, Breaks};
+ghost use Rattle.apple_call.specs.Exchange.{Breaks};
+ghost use Rattle.jm_edge.specs.Exchange.{Exchanges};
 ghost use Rattle.apple_call.specs.Turns.{hearing, clocks_by, closing, Posts, Does, Comes};
 
 use crate::exchange::{RecvFailed, post, receive};
@@ -20,7 +21,7 @@ use jm_wire::Octets;
 pub enum TurnsEnd {
     /// All were made.
     Made,
-    /// A receive of the control port failed, and with it the turn and those coming_behind it ended.
+    /// A receive of the control port failed, and with it the turn and those behind it ended.
     ControlFailed,
     /// A receive of the data port did.
     DataFailed,

@@ -1,6 +1,6 @@
 -- The controllers in keys and an array.
-use Rattle.std.proofs.Common.{◌≡◌, ◌≢◌, ℕ, ◌+◌, ◌*◌, ◌<◌, ◌≤◌, Bool, true, false, not, cond, ◌&&◌, ◌||◌, eqb, leb, List, [], ◌∷◌, ◌++◌, Option, Some, None, length, refl, sym, ap, ◌∙◌, map, inl, inr, arith, get_or, set, append-nil, length-append}
-use Rattle.std.specs.List.{flat_map, list_any, AllByRecursion, filter}
+use Rattle.std.proofs.Common.{◌≡◌, ℕ, ◌+◌, ◌*◌, ◌<◌, ◌≤◌, Bool, true, false, not, cond, ◌||◌, eqb, leb, List, [], ◌∷◌, ◌++◌, Option, length, refl, sym, ap, ◌∙◌, inl, inr, arith, get_or, set, append-nil, length-append}
+use Rattle.std.specs.List.{flat_map, list_any, filter}
 use Rattle.std.proofs.lemmas.Bool.{cases_Bool, eqb-true, eqb-false, or_parts}
 use Rattle.std.proofs.lemmas.Bool.Decides.{nat_tests}
 use Rattle.std.proofs.lemmas.List.{get_or-set_same, get_or-set_other}
@@ -11,7 +11,6 @@ use Rattle.jm_cmds.specs.KeptItem.{kept_fresh}
 use Rattle.jm_cmds.specs.KeptItem.{kept_since}
 use Rattle.jm_cmds.specs.Control.{is_entry}
 use Rattle.jm_cmds.specs.Sent.{s_of}
-use Rattle.jm_chapter.specs.declared.log.Log.{Log}
 use Rattle.jm_chapter.specs.Logs.{logs_text, listed_size}
 use Rattle.jm_chapter.specs.LogsLaws.{length-logs_text}
 use Rattle.ch_control.specs.declared.counts.Counts.{Counts}

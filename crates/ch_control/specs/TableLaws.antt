@@ -1,6 +1,5 @@
 -- The table of Chapter C stands for what the chapter codes.
-use Rattle.std.proofs.Common.{◌≡◌, ℕ, ◌+◌, ◌%◌, ◌<◌, ◌≤◌, Bool, true, false, not, cond, ◌&&◌, ◌||◌, eqb, leb, List, [], ◌∷◌, ◌++◌, length, refl, sym, ap, ◌∙◌, map, fold, inl, inr, arith}
-use Rattle.std.specs.Prelude.{sum_by}
+use Rattle.std.proofs.Common.{◌≡◌, ℕ, ◌+◌, ◌%◌, ◌<◌, ◌≤◌, Bool, true, false, not, cond, ◌||◌, eqb, leb, List, [], ◌∷◌, ◌++◌, length, refl, sym, ap, ◌∙◌, inl, inr, arith}
 use Rattle.std.specs.List.{flat_map, list_any, AllByRecursion, filter}
 use Rattle.std.proofs.lemmas.Bool.{cases_Bool, eqb-true}
 use Rattle.std.proofs.lemmas.List.Sums.{fold-append, sum_by-append, sum_by-cons}
@@ -9,20 +8,20 @@ use Rattle.jm_cmds.specs.declared.commands.Command.TheVariants as commands
 use Rattle.jm_cmds.specs.declared.history.Sent.{Sent}
 use Rattle.jm_cmds.specs.Channels.{own_channel, IsForChannel, SystemMeansOne, own-event}
 use Rattle.jm_cmds.specs.Control.{is_counted}
-use Rattle.jm_cmds.specs.History.{coded, standing, below}
+use Rattle.jm_cmds.specs.History.{coded, standing}
 use Rattle.jm_cmds.specs.HistoryLaws.{coded-push, coded-later, AllByRecursion-filter, AllByRecursion-weaker, AllByRecursion-append, AllByRecursion-standing}
 use Rattle.jm_cmds.specs.KeptItem.{kept_fresh, kept_since, all_below}
 use Rattle.jm_cmds.specs.Pedal.{pedal_event, pedal_along, pedal_after, no_pedal}
 use Rattle.jm_cmds.specs.Sent.{packet_of, is_fresh, s_of, s_bit}
 use Rattle.jm_chapter.specs.declared.log.Log.{Log}
-use Rattle.jm_chapter.specs.Logs.{logs_text, texts, has_log, has_fresh, log_count, with_header, listed}
+use Rattle.jm_chapter.specs.Logs.{logs_text, texts, has_log, has_fresh, with_header, listed}
 use Rattle.ch_control.specs.declared.counts.Counts.{Counts}
 use Rattle.ch_control.specs.declared.events.ControlEvent.{ControlEvent}
 use Rattle.ch_control.specs.declared.events.ControlEvent.TheVariants.{Set, Dropped, Other}
 use Rattle.ch_control.specs.ControlEvent.{control_event, event_at, event_ends, control_ends, is_control, control_count, value_field}
 use Rattle.ch_control.specs.ChapterC.{event_logs, control_logs, chapter_c, fresh_c}
 use Rattle.ch_control.specs.Counts.{no_counts, count_step, counts_after, count_in, session_counts}
-use Rattle.ch_control.specs.ControlTable.{ControlsKept, is_set, sets_of, controls_kept, AreKeptUpTo, kept_of, kept_noted, controls_noted, controls_cut, field_of, logs_of, logs_count, kept_texts, controls_text}
+use Rattle.ch_control.specs.ControlTable.{is_set, sets_of, controls_kept, AreKeptUpTo, kept_of, kept_noted, controls_noted, controls_cut, field_of, logs_of, logs_count, controls_text}
 
 -- ## System commands
 

@@ -6,7 +6,6 @@ use Rattle.std.proofs.lemmas.List.FromFn.{length-map-range_with_len}
 use Rattle.jm_wire.specs.Heads.{note_octets}
 use Rattle.jm_cmds.specs.declared.history.Sent.{Sent}
 use Rattle.jm_cmds.specs.History.{standing, coded, below}
-use Rattle.jm_cmds.specs.HistoryLaws.{flat_map-standing}
 use Rattle.jm_cmds.specs.Sent.{packet_of, is_fresh, s_bit}
 use Rattle.ch_notes.specs.declared.events.NoteEvent.{NoteEvent}
 use Rattle.ch_notes.specs.declared.events.NoteEvent.TheVariants.{Struck, Released, Cleared, Other}

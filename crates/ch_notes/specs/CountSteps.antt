@@ -1,5 +1,5 @@
 -- What is known of the numbers of Chapter N, one note more.
-use Rattle.std.proofs.Common.{◌≡◌, ℕ, ◌+◌, ◌/◌, ◌≤◌, ◌<◌, Bool, refl, arith, min, max}
+use Rattle.std.proofs.Common.{◌≡◌, ◌+◌, ◌≤◌, Bool, refl, arith}
 use Rattle.ch_notes.specs.declared.events.NoteEvent.{NoteEvent}
 use Rattle.ch_notes.specs.declared.events.NoteEvent.TheVariants.{Struck, Released, Cleared, Other}
 use Rattle.ch_notes.specs.declared.shape.Shape.{Shape}

@@ -1,5 +1,5 @@
 -- How many logs Chapter E may have, and what its octets show.
-use Rattle.std.proofs.Common.{◌≡◌, ℕ, ◌+◌, ◌≤◌, ◌<◌, Bool, true, false, cond, eqb, leb, ltb, List, [], ◌∷◌, length, refl, sym, ap, ◌∙◌, arith, length-append, lit≤, inl, inr}
+use Rattle.std.proofs.Common.{◌≡◌, ℕ, ◌+◌, ◌≤◌, ◌<◌, eqb, leb, ltb, List, [], ◌∷◌, length, arith, length-append, lit≤, inl, inr}
 use Rattle.std.specs.List.{cons_option, filter_map, flat_map, AllByRecursion}
 use Rattle.std.proofs.lemmas.Bool.{cases_Bool}
 use Rattle.jm_cmds.specs.Sent.{shows_fresh as header_shows_fresh}

@@ -1,28 +1,28 @@
 -- The table of Chapter E stands for what the chapter codes.
-use Rattle.std.proofs.Common.{◌≡◌, ℕ, zero, suc, ◌+◌, ◌-◌, ◌<◌, ◌≤◌, Bool, true, false, cond, not, ◌||◌, ◌&&◌, eqb, List, [], ◌∷◌, ◌++◌, Option, Some, None, length, map, fold, get_or, set, replicate, refl, sym, ap, ◌∙◌, arith, min, inl, inr}
-use Rattle.std.specs.List.{list_any, flat_map, range_with_len, AllByRecursion}
-use Rattle.std.proofs.lemmas.Bool.{cases_Bool, eq-eqb}
+use Rattle.std.proofs.Common.{◌≡◌, ℕ, zero, suc, ◌+◌, ◌-◌, ◌<◌, ◌≤◌, false, eqb, List, [], ◌∷◌, ◌++◌, length, map, get_or, set, replicate, refl, sym, ap, ◌∙◌, arith, min}
+use Rattle.std.specs.List.{flat_map, range_with_len, AllByRecursion}
+use Rattle.std.proofs.lemmas.Bool.{eq-eqb}
 use Rattle.std.proofs.lemmas.Bool.Decides.{nat_tests}
 use Rattle.std.proofs.lemmas.List.FromFn.{get_or-map-range_with_len}
 use Rattle.std.proofs.lemmas.List.Sums.{fold-append}
 use Rattle.jm_cmds.specs.declared.commands.Command.{Command}
 use Rattle.jm_cmds.specs.declared.history.Sent.{Sent}
 use Rattle.jm_cmds.specs.Channels.{own_channel, IsForChannel, own-event}
-use Rattle.jm_cmds.specs.History.{coded, below}
-use Rattle.jm_cmds.specs.KeptItem.{kept_since, kept_fresh, all_below}
-use Rattle.jm_cmds.specs.Sent.{packet_of, s_of}
+use Rattle.jm_cmds.specs.History.{coded}
+use Rattle.jm_cmds.specs.KeptItem.{all_below}
+use Rattle.jm_cmds.specs.Sent.{packet_of}
 use Rattle.jm_chapter.specs.declared.log.Log.{Log}
-use Rattle.jm_chapter.specs.Logs.{logs_text, has_log, with_header, listed, has_fresh}
+use Rattle.jm_chapter.specs.Logs.{listed, has_fresh}
 use Rattle.ch_notes.specs.declared.events.NoteEvent.{NoteEvent}
 use Rattle.ch_notes.specs.declared.events.NoteEvent.TheVariants.{Struck, Released, Cleared, Other}
 use Rattle.ch_notes.specs.declared.note_rows.NoteRows.{NoteRows}
 use Rattle.ch_notes.specs.NoteEvent.{note_event, event_at, note_ends, IsWithin}
 use Rattle.ch_notes.specs.ChapterE.{count_event, count_step, ref_count, struck_logs, released_logs, extra_logs, extra_at, chapter_e, fresh_e}
-use Rattle.ch_notes.specs.KeptRows.{row_texts, row_count, row_fresh, rows_listed}
+use Rattle.ch_notes.specs.KeptRows.{row_texts, row_fresh, rows_listed}
 use Rattle.ch_notes.specs.RowLaws.{option_logs, listed_rows, fresh_rows}
-use Rattle.ch_notes.specs.NoteTable.{NoteRow, note_row, note_row_at, notes_kept, note_noted, RowsWithin, note_row_of, note_rows}
+use Rattle.ch_notes.specs.NoteTable.{NoteRow, note_row, note_row_at, notes_kept, RowsWithin, note_row_of, note_rows}
 use Rattle.ch_notes.specs.NoteTableLaws.{note_system, notes_push, notes_later, notes_none}
-use Rattle.ch_notes.specs.ExtraTable.{ExtraKept, all_counts, extra_kept, counts_after, extra_noted, extra_cut, counted_logs, extra_row_logs, extra_text, extra_fresh}
+use Rattle.ch_notes.specs.ExtraTable.{all_counts, extra_kept, counts_after, extra_noted, extra_cut, counted_logs, extra_row_logs, extra_text, extra_fresh}
 
 -- ## One command more
 

@@ -16,7 +16,7 @@ use Rattle.ch_notes.specs.declared.events.NoteEvent.{NoteEvent}
 use Rattle.ch_notes.specs.declared.events.NoteEvent.TheVariants.{Struck, Released, Cleared, Other}
 use Rattle.ch_notes.specs.declared.shape.Shape.{Shape}
 use Rattle.ch_notes.specs.NoteEvent.{note_event, event_at, note_ends, IsWithin, AreWithin}
-use Rattle.ch_notes.specs.Shape.{counted, no_notes, is_bare, shape_head, high_field, mark_octets, shaped}
+use Rattle.ch_notes.specs.Shape.{counted, no_notes, is_bare, high_field, mark_octets, shaped}
 use Rattle.ch_notes.specs.ChapterN.{is_struck, is_released, event_log, note_log, y_bit, log_count, released, released_note, released_fresh, coded_notes, chapter_n, fresh_n}
 use Rattle.ch_notes.specs.Count.{IsCount}
 use Rattle.ch_notes.specs.CountLaws.{counted-logs, counted-off, counted-fresh_off}

@@ -1,5 +1,5 @@
 -- What a table keeps of coded places: of each that has a row, its packet with the row.
-use Rattle.std.specs.Prelude.{◌≡◌, ℕ, ◌+◌, ◌==◌, ◌≤◌, Bool, ◌&&◌, List, [], ◌∷◌, Option, Some, None, length}
+use Rattle.std.specs.Prelude.{ℕ, ◌+◌, ◌==◌, ◌≤◌, Bool, ◌&&◌, List, [], ◌∷◌, Option, Some, None, length}
 use Rattle.std.specs.List.{list_any, flat_map, AllByRecursion}
 use Rattle.jm_cmds.specs.declared.history.Sent.{Sent}
 use Rattle.jm_cmds.specs.KeptItem.{kept_fresh}

@@ -1,5 +1,5 @@
 -- The table of Chapter N stands for what the chapter codes.
-use Rattle.std.proofs.Common.{◌≡◌, ℕ, ◌+◌, ◌*◌, ◌<◌, ◌≤◌, Bool, true, false, cond, not, ◌||◌, ◌&&◌, eqb, ltb, List, [], ◌∷◌, ◌++◌, Option, Some, None, length, map, fold, get_or, set, suc, refl, sym, ap, ◌∙◌, arith, length-append, inl, inr}
+use Rattle.std.proofs.Common.{◌≡◌, ℕ, ◌+◌, ◌*◌, ◌<◌, ◌≤◌, Bool, true, false, cond, not, ◌||◌, ◌&&◌, eqb, ltb, List, [], ◌∷◌, ◌++◌, length, get_or, set, refl, sym, ap, ◌∙◌, arith, length-append, inl, inr}
 use Rattle.std.specs.List.{list_any, flat_map, filter, AllByRecursion}
 use Rattle.std.proofs.lemmas.Bool.{cases_Bool, eqb-false, lt-ltb}
 use Rattle.std.proofs.lemmas.List.{get_or-set_same, get_or-set_other, map-append}
@@ -7,18 +7,18 @@ use Rattle.jm_recency.specs.Recency.{without, touched}
 use Rattle.jm_cmds.specs.declared.commands.Command.{Command}
 use Rattle.jm_cmds.specs.declared.commands.Command.TheVariants as commands
 use Rattle.jm_cmds.specs.declared.history.Sent.{Sent}
-use Rattle.jm_cmds.specs.Channels.{channel_of, own_channel, IsForChannel, SystemMeansOne, own-event}
-use Rattle.jm_cmds.specs.History.{coded, below}
+use Rattle.jm_cmds.specs.Channels.{own_channel, IsForChannel, SystemMeansOne, own-event}
+use Rattle.jm_cmds.specs.History.{coded}
 use Rattle.jm_cmds.specs.HistoryLaws.{coded-push}
 use Rattle.jm_cmds.specs.KeptItem.{kept_since, kept_fresh, all_below}
-use Rattle.jm_cmds.specs.Sent.{packet_of, is_fresh, s_of, s_bit}
+use Rattle.jm_cmds.specs.Sent.{packet_of, is_fresh, s_of}
 use Rattle.ch_notes.specs.declared.events.NoteEvent.{NoteEvent}
 use Rattle.ch_notes.specs.declared.events.NoteEvent.TheVariants.{Struck, Released, Cleared, Other}
 use Rattle.ch_notes.specs.declared.note_rows.NoteRows.{NoteRows}
 use Rattle.ch_notes.specs.declared.shape.Shape.{Shape}
 use Rattle.ch_notes.specs.NoteEvent.{note_event, event_at, concerns, event_ends, note_ends, IsWithin, AreWithin}
-use Rattle.ch_notes.specs.Shape.{no_notes, shape_step, counted, is_bare, span, shaped, shape_len}
-use Rattle.ch_notes.specs.ChapterN.{event_log, note_log, is_struck, is_released, late_bit, y_bit, chapter_of, chapter_n, fresh_n}
+use Rattle.ch_notes.specs.Shape.{no_notes, shape_step, counted, shaped, shape_len}
+use Rattle.ch_notes.specs.ChapterN.{event_log, note_log, is_struck, is_released, late_bit, chapter_of, chapter_n, fresh_n}
 use Rattle.ch_notes.specs.ChapterLaws.{chapter_of-shaped, length-shaped}
 use Rattle.ch_notes.specs.CountLaws.{counted-fresh}
 use Rattle.ch_notes.specs.KeptRows.{cons_row, rows_of, RowsUpTo}

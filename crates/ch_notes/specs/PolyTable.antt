@@ -1,5 +1,5 @@
 -- What the table of Chapter A keeps.
-use Rattle.std.specs.Prelude.{◌≡◌, ℕ, ◌+◌, Bool, true, false, not, ◌||◌, List, [], ◌∷◌, ◌++◌, Option, Some, None, map, filter, slice_index, slice_index_or, ◌==◌}
+use Rattle.std.specs.Prelude.{ℕ, ◌+◌, Bool, false, not, ◌||◌, List, [], ◌∷◌, ◌++◌, Option, Some, None, map, filter, slice_index, slice_index_or, ◌==◌}
 use Rattle.std.specs.List.{list_any}
 use Rattle.jm_cmds.specs.declared.history.Sent.{Sent}
 use Rattle.jm_chapter.specs.declared.log.Log.{Log}

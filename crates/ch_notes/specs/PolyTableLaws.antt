@@ -1,22 +1,21 @@
 -- The table of Chapter A stands for what the chapter codes.
-use Rattle.std.proofs.Common.{◌≡◌, ℕ, ◌+◌, ◌<◌, ◌≤◌, Bool, true, false, cond, not, ◌||◌, eqb, List, [], ◌∷◌, ◌++◌, Option, Some, None, length, map, fold, get_or, set, replicate, zero, suc, refl, sym, ap, ◌∙◌, arith, inl, inr}
-use Rattle.std.specs.List.{list_any, flat_map, filter, filter_map, cons_option, AllByRecursion}
+use Rattle.std.proofs.Common.{◌≡◌, ℕ, ◌<◌, ◌≤◌, Bool, true, false, cond, not, ◌||◌, eqb, List, [], ◌∷◌, ◌++◌, Option, length, get_or, set, replicate, zero, suc, refl, sym, ap, ◌∙◌, arith, inl, inr}
+use Rattle.std.specs.List.{list_any, filter, filter_map, cons_option, AllByRecursion}
 use Rattle.std.proofs.Math.Bool.{or-false}
-use Rattle.std.proofs.lemmas.Bool.{cases_Bool, eq-eqb, eqb-true, eqb-false}
+use Rattle.std.proofs.lemmas.Bool.{cases_Bool, eq-eqb, eqb-false}
 use Rattle.std.proofs.lemmas.Bool.Decides.{nat_tests}
 use Rattle.std.proofs.lemmas.List.{get_or-set_same, get_or-set_other, map-append}
 use Rattle.std.proofs.lemmas.List.Sums.{fold-append}
-use Rattle.jm_recency.specs.Recency.{holds, without, touched, since_stamp}
+use Rattle.jm_recency.specs.Recency.{holds, without, touched}
 use Rattle.jm_cmds.specs.declared.commands.Command.{Command}
 use Rattle.jm_cmds.specs.declared.commands.Command.TheVariants as commands
 use Rattle.jm_cmds.specs.declared.history.Sent.{Sent}
-use Rattle.jm_cmds.specs.Channels.{channel_of, own_channel, IsForChannel, SystemMeansOne, own-event}
+use Rattle.jm_cmds.specs.Channels.{own_channel, IsForChannel, SystemMeansOne, own-event}
 use Rattle.jm_cmds.specs.Control.{ends_notes}
 use Rattle.jm_cmds.specs.HistoryLaws.{coded-push}
 use Rattle.jm_cmds.specs.KeptItem.{kept_since, all_below}
 use Rattle.jm_cmds.specs.Keys.{has_key}
 use Rattle.jm_cmds.specs.Sent.{packet_of}
-use Rattle.jm_chapter.specs.declared.log.Log.{Log}
 use Rattle.jm_chapter.specs.Logs.{listed, has_fresh}
 use Rattle.ch_notes.specs.declared.presses.PolyEvent.{PolyEvent}
 use Rattle.ch_notes.specs.declared.presses.PolyEvent.TheVariants.{Pressed, Dropped, Other}

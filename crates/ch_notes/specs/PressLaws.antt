@@ -1,5 +1,5 @@
 -- How many logs Chapter A may have, and what its octets show.
-use Rattle.std.proofs.Common.{◌≡◌, ℕ, ◌+◌, ◌≤◌, ◌<◌, Bool, true, false, cond, ◌||◌, ◌&&◌, eqb, leb, ltb, Some, None, List, [], ◌∷◌, length, refl, sym, ap, ◌∙◌, arith, length-append, inl, inr}
+use Rattle.std.proofs.Common.{◌≡◌, ℕ, ◌+◌, ◌≤◌, ◌<◌, Bool, true, false, cond, eqb, leb, ltb, Some, List, [], ◌∷◌, length, refl, ap, ◌∙◌, arith, length-append, inl, inr}
 use Rattle.std.specs.List.{filter_map, cons_option, flat_map, AllByRecursion}
 use Rattle.std.proofs.lemmas.Bool.{cases_Bool}
 use Rattle.jm_cmds.specs.Sent.{shows_fresh as header_shows_fresh}

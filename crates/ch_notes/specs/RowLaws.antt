@@ -1,16 +1,16 @@
 -- Rows of coded places, and rows of keys with stamps.
 use Rattle.std.proofs.Common.{◌≡◌, ℕ, ◌+◌, ◌*◌, ◌≤◌, Bool, true, false, not, cond, ◌||◌, ◌&&◌, List, [], ◌∷◌, ◌++◌, Option, Some, None, eqb, leb, length, map, refl, ap, sym, ◌∙◌, arith, length-append, inl, inr}
-use Rattle.std.specs.List.{list_any, flat_map, filter, AllByRecursion}
+use Rattle.std.specs.List.{flat_map, filter, AllByRecursion}
 use Rattle.std.proofs.lemmas.Bool.{cases_Bool}
 use Rattle.jm_recency.specs.Recency.{without, since_stamp}
 use Rattle.jm_cmds.specs.declared.history.Sent.{Sent}
 use Rattle.jm_cmds.specs.History.{coded, since}
 use Rattle.jm_cmds.specs.HistoryLaws.{coded-later}
-use Rattle.jm_cmds.specs.KeptItem.{kept_since, kept_fresh}
-use Rattle.jm_cmds.specs.Sent.{packet_of, s_of, is_fresh, s_bit}
+use Rattle.jm_cmds.specs.KeptItem.{kept_since}
+use Rattle.jm_cmds.specs.Sent.{packet_of, s_of}
 use Rattle.jm_chapter.specs.declared.log.Log.{Log}
-use Rattle.jm_chapter.specs.Logs.{logs_text, has_log, with_header, listed, has_fresh, texts, log_count, listed_size}
-use Rattle.ch_notes.specs.KeptRows.{cons_row, rows_of, RowsUpTo, row_texts, row_count, row_fresh, rows_listed, key_texts, key_logs, key_fresh, key_listed}
+use Rattle.jm_chapter.specs.Logs.{logs_text, has_log, listed, has_fresh, texts, listed_size}
+use Rattle.ch_notes.specs.KeptRows.{cons_row, rows_of, RowsUpTo, row_texts, row_fresh, rows_listed, key_texts, key_logs, key_fresh, key_listed}
 
 -- ## Rows of coded places
 

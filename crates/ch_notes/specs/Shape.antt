@@ -1,5 +1,5 @@
 -- The coded notes of a channel, counted one after another.
-use Rattle.std.specs.Prelude.{ℕ, ◌+◌, ◌-◌, ◌*◌, ◌/◌, Bool, true, false, not, ◌||◌, ◌&&◌, ◌==◌, if◌then◌else◌, List, [], ◌∷◌, ◌++◌, fold, map, min, max, slice_set, slice_index_or, replicate}
+use Rattle.std.specs.Prelude.{ℕ, ◌+◌, ◌-◌, ◌*◌, ◌/◌, Bool, true, false, not, ◌||◌, ◌&&◌, ◌==◌, if◌then◌else◌, List, [], ◌++◌, fold, map, min, max, slice_set, slice_index_or, replicate}
 use Rattle.std.specs.List.{range_with_len}
 use Rattle.jm_wire.specs.declared.heads.NoteHead.{NoteHead}
 use Rattle.jm_wire.specs.Heads.{note_octets}

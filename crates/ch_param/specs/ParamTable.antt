@@ -1,5 +1,5 @@
 -- What the table of Chapter M keeps.
-use Rattle.std.specs.Prelude.{◌≡◌, ℕ, ◌+◌, Bool, true, false, not, ◌&&◌, List, [], ◌∷◌, ◌++◌, Option, Some, None, fold, filter, length, ◌==◌, nat_le, if◌then◌else◌, option_to_list}
+use Rattle.std.specs.Prelude.{ℕ, ◌+◌, Bool, true, false, not, ◌&&◌, List, [], ◌∷◌, ◌++◌, Option, Some, None, fold, filter, ◌==◌, nat_le, if◌then◌else◌, option_to_list}
 use Rattle.std.proofs.Math.Bool.{beq}
 use Rattle.std.specs.List.{list_any, flat_map, filter_map}
 use Rattle.jm_cmds.specs.declared.history.Sent.{Sent}

@@ -10,22 +10,20 @@ use Rattle.jm_cmds.specs.declared.commands.Command.{Command}
 use Rattle.jm_cmds.specs.declared.commands.Command.TheVariants as commands
 use Rattle.jm_cmds.specs.declared.history.Sent.{Sent}
 use Rattle.jm_cmds.specs.declared.param.Param.{Param}
-use Rattle.jm_cmds.specs.declared.selection.ParamCommand.{ParamCommand}
-use Rattle.jm_cmds.specs.declared.selection.Selection.{Selection}
-use Rattle.jm_cmds.specs.Channels.{channel_of, own_channel, IsForChannel, SystemMeansOne, own-event}
-use Rattle.jm_cmds.specs.History.{coded, standing, since, below, Unended, InOrder}
+use Rattle.jm_cmds.specs.Channels.{own_channel, IsForChannel, SystemMeansOne, own-event}
+use Rattle.jm_cmds.specs.History.{coded, standing, since, Unended, InOrder}
 use Rattle.jm_cmds.specs.HistoryLaws.{coded-push, coded-later, scanned-push, Unended-coded, InOrder-scanned}
 use Rattle.jm_cmds.specs.KeptItem.{all_below}
 use Rattle.jm_cmds.specs.Param.{same_param}
-use Rattle.jm_cmds.specs.Selection.{param_command, no_selection, selection_after, selected_param}
-use Rattle.jm_cmds.specs.Sent.{packet_of, is_fresh, s_of}
+use Rattle.jm_cmds.specs.Selection.{param_command, no_selection, selected_param}
+use Rattle.jm_cmds.specs.Sent.{packet_of}
 use Rattle.ch_param.specs.declared.events.ParamEvent.{ParamEvent}
 use Rattle.ch_param.specs.declared.events.ParamEvent.TheVariants.{Entry, Cleared, Other}
 use Rattle.ch_param.specs.declared.param_table.HalfRow.{HalfRow}
-use Rattle.ch_param.specs.Event.{Place, param_event, selection_step, placed, packet_at, event_at, takes_half, takes_param, param_event_ends, half_event_ends, param_ends, half_ends}
+use Rattle.ch_param.specs.Event.{Place, param_event, selection_step, packet_at, event_at, takes_half, takes_param, param_event_ends, half_event_ends, param_ends, half_ends}
 use Rattle.ch_param.specs.LaterLaws.{entered-halves}
-use Rattle.ch_param.specs.ChapterM.{Entered, event_param, entered_by, entered_at, entered, is_half, event_value, half_among, coded_half, param_log, entered_log, param_logs, fresh_among, chapter_of, session_places, chapter_m, fresh_m, param_count, has_param, param_parts, selected}
-use Rattle.ch_param.specs.ParamTable.{ParamsKept, half_row, half_row_at, params_kept, is_left, halves_noted, param_noted, rows_since, param_cut, same_row, last_halves, half_of, row_log, row_logs, rows_fresh, has_row, params_text}
+use Rattle.ch_param.specs.ChapterM.{Entered, event_param, entered_by, entered_at, entered, is_half, event_value, half_among, param_log, entered_log, param_logs, fresh_among, chapter_of, session_places, chapter_m, fresh_m, param_count, has_param, param_parts, selected}
+use Rattle.ch_param.specs.ParamTable.{half_row, half_row_at, params_kept, is_left, halves_noted, param_noted, rows_since, param_cut, last_halves, half_of, row_log, row_logs, rows_fresh, has_row, params_text}
 
 -- ## What a command means for its own channel
 

@@ -1,7 +1,7 @@
 -- The messages in their ring.
-use Rattle.std.proofs.Common.{◌≡◌, ℕ, zero, suc, ◌+◌, ◌-◌, ◌*◌, ◌<◌, ◌≤◌, Bool, true, false, cond, ◌||◌, eqb, leb, List, [], ◌∷◌, ◌++◌, Option, Some, None, length, refl, sym, ap, ◌∙◌, map, take, drop, get_or, set, arith, length-append}
+use Rattle.std.proofs.Common.{◌≡◌, ℕ, zero, suc, ◌+◌, ◌-◌, ◌<◌, ◌≤◌, true, false, ◌||◌, eqb, leb, List, [], ◌∷◌, ◌++◌, Some, None, length, refl, sym, ap, ◌∙◌, take, drop, get_or, set, arith, length-append}
 use Rattle.std.specs.Prelude.{slice_get}
-use Rattle.std.specs.List.{flat_map, list_any, AllByRecursion, filter}
+use Rattle.std.specs.List.{list_any}
 use Rattle.std.proofs.lemmas.Bool.{le-leb, lt-leb}
 use Rattle.std.proofs.lemmas.Grind.{take-set_at}
 use Rattle.circular_buffer.specs.Buffer.{keep_last}
@@ -10,7 +10,7 @@ use Rattle.jm_cmds.specs.HistoryLaws.{InOrder-append, AllByRecursion-append, All
 use Rattle.ch_sysex.specs.declared.kept.KeptMessage.{KeptMessage}
 use Rattle.ch_sysex.specs.ChapterX.{last_marked}
 use Rattle.ch_sysex.specs.ChapterLaws.{last_marked-split}
-use Rattle.ch_sysex.specs.SysexTable.{SysexLog, log_packet, AreLogsUpTo, logs_since, log_fresh, kept_text, sysex_text, kept_len, kept_octets, log_in, logs_in, IsShort, AreShort}
+use Rattle.ch_sysex.specs.SysexTable.{SysexLog, log_packet, AreLogsUpTo, logs_since, log_fresh, sysex_text, kept_octets, log_in, logs_in, IsShort, AreShort}
 
 pub any_in : (packet : ℕ) (messages : List KeptMessage) → list_any (λ message. eqb (message.packet + 1) packet) messages ≡ list_any (log_fresh packet) (logs_in messages)
 any_in packet [] = refl

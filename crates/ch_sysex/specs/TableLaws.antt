@@ -1,5 +1,5 @@
 -- The table of Chapter X stands for what the chapter codes.
-use Rattle.std.proofs.Common.{◌≡◌, ℕ, ◌+◌, ◌%◌, ◌<◌, ◌≤◌, Bool, true, false, not, cond, ◌&&◌, ◌||◌, leb, eqb, List, [], ◌∷◌, ◌++◌, length, refl, sym, ap, ◌∙◌, map, fold, inl, inr, arith, append-nil}
+use Rattle.std.proofs.Common.{◌≡◌, ℕ, ◌+◌, ◌%◌, ◌<◌, ◌≤◌, Bool, true, false, not, cond, ◌||◌, leb, List, [], ◌∷◌, ◌++◌, length, refl, sym, ap, ◌∙◌, map, fold, inl, inr, arith, append-nil}
 use Rattle.std.specs.Prelude.{sum_by, count_by}
 use Rattle.std.specs.List.{flat_map, list_any, AllByRecursion, filter}
 use Rattle.std.proofs.lemmas.Bool.{cases_Bool}
@@ -9,15 +9,15 @@ use Rattle.jm_cmds.specs.declared.commands.Command.TheVariants as commands
 use Rattle.jm_cmds.specs.declared.history.Sent.{Sent}
 use Rattle.jm_cmds.specs.Control.{is_reset, is_reset_message}
 use Rattle.jm_cmds.specs.Data.{is_kept_message}
-use Rattle.jm_cmds.specs.History.{coded, scanned, standing, below}
-use Rattle.jm_cmds.specs.HistoryLaws.{coded-push, coded-later, scanned-push, any-scanned, AllByRecursion-filter, AllByRecursion-weaker, AllByRecursion-append, AllByRecursion-standing}
+use Rattle.jm_cmds.specs.History.{coded, scanned}
+use Rattle.jm_cmds.specs.HistoryLaws.{coded-push, coded-later, scanned-push, any-scanned, AllByRecursion-filter, AllByRecursion-weaker, AllByRecursion-append}
 use Rattle.jm_cmds.specs.KeptItem.{all_below}
-use Rattle.jm_cmds.specs.Sent.{packet_of, is_fresh, s_of, s_bit}
+use Rattle.jm_cmds.specs.Sent.{packet_of, is_fresh, s_bit}
 use Rattle.ch_sysex.specs.declared.events.SysexEvent.{SysexEvent}
 use Rattle.ch_sysex.specs.declared.events.SysexEvent.TheVariants.{Kept, ResetMessage, Reset, Other}
 use Rattle.ch_sysex.specs.SysexEvent.{sysex_event, event_at, data_of, is_logged, resets, sysex_ends, count_after, count_step}
 use Rattle.ch_sysex.specs.ChapterX.{Counted, counted_packet, counted_ends, last_marked, d_bit, event_text, event_len, sysex_log, coded_counted, coded_sysex, is_fresh_log, has_log, log_len, chapter_x, fresh_x, sysex_logs, sysex_octets}
-use Rattle.ch_sysex.specs.SysexTable.{SysexLog, SysexKept, log_count, log_at, logs_of, sysex_kept, none_kept, log_packet, AreLogsUpTo, sysex_noted, logs_since, sysex_cut, log_fresh, kept_text, sysex_text, kept_len, kept_octets}
+use Rattle.ch_sysex.specs.SysexTable.{SysexLog, SysexKept, log_count, log_at, logs_of, sysex_kept, none_kept, log_packet, AreLogsUpTo, sysex_noted, logs_since, sysex_cut, log_fresh, kept_text, sysex_text, kept_octets}
 
 abbrev logged_at : Counted → Bool
 logged_at counted = is_logged (event_at counted.1)

@@ -1,15 +1,13 @@
 -- The tables of the system chapters stand for what the chapters code.
-use Rattle.std.proofs.Common.{◌≡◌, ℕ, ◌+◌, ◌%◌, ◌<◌, ◌≤◌, Bool, true, false, cond, ◌||◌, List, [], ◌∷◌, ◌++◌, None, length, refl, sym, ap, ◌∙◌, map, fold, arith}
-use Rattle.std.specs.Prelude.{sum_by}
+use Rattle.std.proofs.Common.{◌≡◌, ℕ, ◌+◌, ◌%◌, ◌<◌, ◌≤◌, Bool, true, false, cond, ◌||◌, List, [], ◌∷◌, ◌++◌, None, refl, sym, ap, ◌∙◌, map, arith}
 use Rattle.std.specs.List.{flat_map, list_any, AllByRecursion, filter}
-use Rattle.std.proofs.lemmas.Bool.{cases_Bool}
 use Rattle.std.proofs.lemmas.List.Sums.{fold-append, sum_by-append, sum_by-cons}
 use Rattle.jm_cmds.specs.declared.commands.Command.{Command}
 use Rattle.jm_cmds.specs.declared.history.Sent.{Sent}
 use Rattle.jm_cmds.specs.Control.{is_reset}
 use Rattle.jm_cmds.specs.Frames.{time_code_along, time_code_after}
-use Rattle.jm_cmds.specs.History.{coded, below}
-use Rattle.jm_cmds.specs.KeptItem.{kept, kept_fresh, kept_since, all_below, kept-push, kept-later}
+use Rattle.jm_cmds.specs.History.{coded}
+use Rattle.jm_cmds.specs.KeptItem.{kept_fresh, kept_since, all_below, kept-push, kept-later}
 use Rattle.jm_cmds.specs.Sent.{packet_of, is_fresh, s_of, s_bit}
 use Rattle.jm_cmds.specs.Sequencing.{sequencer_along, sequencer_after}
 use Rattle.ch_system.specs.declared.items.SystemItem.{SystemItem}
@@ -20,7 +18,7 @@ use Rattle.ch_system.specs.ChapterD.{song_of, count_logs, song_logs, d_head, hea
 use Rattle.ch_system.specs.ChapterV.{chapter_v, fresh_v}
 use Rattle.ch_system.specs.ChapterQ.{position_octets, chapter_q, fresh_q}
 use Rattle.ch_system.specs.ChapterF.{time_octets_of, chapter_f, fresh_f}
-use Rattle.ch_system.specs.Tables.{song_at, item_kept, item_noted, CountedKept, counted_kept, count_noted, counted_noted, counted_cut, none_counted, counted_text, SimpleKept, simple_kept, none_simple, simple_noted, simple_cut, song_text, simple_fresh, simple_text, sensing_kept, SequencerKept, sequencer_kept, sequencer_noted, sequencer_cut, sequencer_text, TimeKept, time_kept, time_noted, time_cut, time_text}
+use Rattle.ch_system.specs.Tables.{song_at, item_kept, item_noted, counted_kept, count_noted, counted_noted, counted_cut, none_counted, counted_text, simple_kept, none_simple, simple_noted, simple_cut, song_text, simple_fresh, simple_text, sensing_kept, sequencer_kept, sequencer_noted, sequencer_cut, sequencer_text, time_kept, time_noted, time_cut, time_text}
 
 -- ## One item
 

@@ -1,13 +1,12 @@
 -- The tables of Chapters P, W and T stand for what the chapters code.
-use Rattle.std.proofs.Common.{◌≡◌, ℕ, ◌+◌, ◌<◌, ◌≤◌, Bool, true, false, cond, ◌&&◌, eqb, leb, List, [], ◌∷◌, ◌++◌, Some, None, length, refl, sym, ap, ◌∙◌, map, fold}
+use Rattle.std.proofs.Common.{◌≡◌, ℕ, ◌+◌, ◌<◌, ◌≤◌, true, false, cond, ◌&&◌, List, [], ◌∷◌, ◌++◌, refl, sym, ap, ◌∙◌, fold}
 use Rattle.std.proofs.lemmas.List.Sums.{fold-append}
-use Rattle.std.specs.List.{flat_map, list_any, AllByRecursion, filter}
-use Rattle.std.proofs.lemmas.Bool.{cases_Bool}
+use Rattle.std.specs.List.{flat_map, list_any, AllByRecursion}
 use Rattle.jm_cmds.specs.declared.commands.Command.{Command}
 use Rattle.jm_cmds.specs.declared.commands.Command.TheVariants as commands
 use Rattle.jm_cmds.specs.declared.history.Sent.{Sent}
-use Rattle.jm_cmds.specs.Channels.{channel_of, own_channel, IsForChannel, SystemMeansOne, own-event}
-use Rattle.jm_cmds.specs.History.{coded, below, scanned}
+use Rattle.jm_cmds.specs.Channels.{own_channel, IsForChannel, SystemMeansOne, own-event}
+use Rattle.jm_cmds.specs.History.{coded, scanned}
 use Rattle.jm_cmds.specs.HistoryLaws.{scanned-push}
 use Rattle.jm_cmds.specs.KeptItem.{kept, kept_fresh, kept_since, all_below, kept-push, kept-later, kept-text, kept-any}
 use Rattle.jm_cmds.specs.OneItem.{replaced}
@@ -23,16 +22,16 @@ use Rattle.ch_voice.specs.declared.program.ProgramChoice.{ProgramChoice}
 use Rattle.ch_voice.specs.declared.item.VoiceItem.TheVariants.{Wheel, Pressure}
 use Rattle.ch_voice.specs.WheelEvent.{wheel_event, wheel_at, is_moved, ends_wheel}
 use Rattle.ch_voice.specs.PressureEvent.{pressure_event, pressure_at, is_pressed, ends_pressure}
-use Rattle.ch_voice.specs.ProgramEvent.{program_event, program_at, is_chosen, ends_program}
-use Rattle.ch_voice.specs.VoiceItem.{tells_at, touches_at, item_coded}
+use Rattle.ch_voice.specs.ProgramEvent.{program_event, is_chosen, ends_program}
+use Rattle.ch_voice.specs.VoiceItem.{tells_at, touches_at}
 use Rattle.ch_voice.specs.ItemLaws.{touching, wheel_silent, pressure_silent}
-use Rattle.ch_voice.specs.Bank.{no_bank, bank_after, bank_step}
+use Rattle.ch_voice.specs.Bank.{no_bank, bank_step}
 use Rattle.ch_voice.specs.ChapterP.{Banked, banked_event, banked_packet, program_log, program_octets, chapter_p, fresh_p}
 use Rattle.ch_voice.specs.ChapterW.{chapter_w, fresh_w, wheel_octets, wheel_log}
 use Rattle.ch_voice.specs.ChapterT.{chapter_t, fresh_t, pressure_octets, pressure_log}
 use Rattle.ch_voice.specs.WheelTable.{wheel_kept, wheel_noted, wheel_text}
 use Rattle.ch_voice.specs.PressureTable.{pressure_kept, pressure_noted, pressure_text}
-use Rattle.ch_voice.specs.ProgramTable.{ProgramsKept, choice_of, choice_at, is_chosen_at, ends_program_at, program_kept, choice_noted, program_noted, program_cut, choice_text, programs_text}
+use Rattle.ch_voice.specs.ProgramTable.{choice_of, choice_at, is_chosen_at, ends_program_at, program_kept, choice_noted, program_noted, program_cut, choice_text, programs_text}
 
 -- ## The wheel
 

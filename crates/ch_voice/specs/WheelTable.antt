@@ -1,15 +1,13 @@
 -- What the table of Chapter W keeps.
-use Rattle.std.specs.Prelude.{◌≡◌, ℕ, ◌+◌, ◌<◌, ◌≤◌, List, [], ◌∷◌, ◌++◌}
-use Rattle.std.specs.List.{flat_map, list_any, AllByRecursion}
-use Rattle.jm_cmds.specs.declared.commands.Command.{Command}
+use Rattle.std.specs.Prelude.{ℕ, List, [], ◌∷◌}
+use Rattle.std.specs.List.{flat_map}
 use Rattle.jm_cmds.specs.declared.history.Sent.{Sent}
-use Rattle.jm_cmds.specs.Channels.{own_channel}
 use Rattle.jm_cmds.specs.KeptItem.{kept, kept_fresh}
 use Rattle.jm_cmds.specs.Sent.{packet_of, s_of}
 use Rattle.ch_voice.specs.declared.events.WheelEvent.{WheelEvent}
 use Rattle.ch_voice.specs.declared.events.WheelEvent.TheVariants.{Moved, Cleared, Other}
 use Rattle.ch_voice.specs.declared.item.VoiceItem.TheVariants.{Wheel as WheelItem}
-use Rattle.ch_voice.specs.WheelEvent.{wheel_event, wheel_at}
+use Rattle.ch_voice.specs.WheelEvent.{wheel_at}
 use Rattle.ch_voice.specs.ChapterW.{wheel_octets}
 use Rattle.ch_voice.specs.VoiceItem.{tells_at, touches_at}
 

@@ -9,3 +9,7 @@ pub mod MemPort
 pub mod Marks
 pub mod MarkLaws
 pub mod Taken
+pub mod Exchange
+pub mod ExchangeLaws
+pub mod Moments
+pub mod MomentLaws

@@ -18,36 +18,12 @@ use Rattle.jm_desk.specs.History.{turned, before_last}
 use Rattle.jm_desk.specs.OwnTurns.{turns_by}
 use Rattle.jm_desk.specs.Sharing.{Shared, PassView, MakesTurn, config_of}
 use Rattle.jm_desk.specs.SharingLaws.{adds_own}
-use Rattle.jm_serve.specs.Exchange.{Sending, went, lost, letters_in, letters_to, taken, IsQuietAtEnd, Exchanges, counted, Posts}
+use Rattle.jm_edge.specs.Exchange.{Sending, letters_in}
+use Rattle.jm_edge.specs.ExchangeLaws.{letters_in-append, exchanges-then, exchanges_nothing, exchanges_gone, exchanges_lost}
+use Rattle.jm_serve.specs.Exchange.{letters_to, counted, Posts}
 use Rattle.jm_serve.specs.Acts.{Act, act, turns_of, places_of, next_call, StandIn, GoesOn, Gains, Scene, Works}
 
 -- ---- lists
-
-went-append : (xs ys : List Sending) → went (xs ++ ys) ≡ went xs ++ went ys
-went-append [] ys = refl
-went-append (x ∷ xs) ys = elim x.is_lost as (λ (b : Bool). cond b (went (xs ++ ys)) (x.letter ∷ went (xs ++ ys)) ≡ cond b (went xs) (x.letter ∷ went xs) ++ went ys) [
-  | true ↦ went-append xs ys
-  | false ↦ ap (λ (k : List Letter). x.letter ∷ k) (went-append xs ys)
-]
-
-lost-append : (xs ys : List Sending) → lost (xs ++ ys) ≡ lost xs + lost ys
-lost-append [] ys = omega arith
-lost-append (x ∷ xs) ys = omega (arith, lost-append xs ys)
-
-letters-append : (xs ys : List Sending) → letters_in (xs ++ ys) ≡ letters_in xs ++ letters_in ys
-letters-append [] ys = refl
-letters-append (x ∷ xs) ys = ap (λ (k : List Letter). x.letter ∷ k) (letters-append xs ys)
-
-taken-append : (xs ys : List (Option Letter)) → taken (xs ++ ys) ≡ taken xs ++ taken ys
-taken-append [] ys = refl
-taken-append (Some x ∷ xs) ys = ap (λ (k : List Letter). x ∷ k) (taken-append xs ys)
-taken-append (None ∷ xs) ys = taken-append xs ys
-
-quiet-append : (xs ys : List (Option Letter)) (rest : List Letter) → IsQuietAtEnd xs (taken ys ++ rest) → IsQuietAtEnd ys rest → IsQuietAtEnd (xs ++ ys) rest
-quiet-append [] ys rest first second = second
-quiet-append (Some x ∷ xs) ys rest first second = quiet-append xs ys rest first second
-quiet-append (None ∷ xs) ys rest first second =
-    ap (λ (k : List Letter). k ++ rest) (taken-append xs ys) ∙ append_assoc (taken xs) (taken ys) rest ∙ first
 
 turns-append : (xs ys : List Act) → turns_of (xs ++ ys) ≡ turns_of xs ++ turns_of ys
 turns-append [] ys = refl
@@ -56,59 +32,6 @@ turns-append (x ∷ xs) ys = ap (λ (k : List DeskTurn). x.turn ∷ k) (turns-ap
 places-append : (xs ys : List Act) → places_of (xs ++ ys) ≡ places_of xs ++ places_of ys
 places-append [] ys = refl
 places-append (x ∷ xs) ys = ap (λ (k : List ℕ). length x.before ∷ k) (places-append xs ys)
-
--- ---- through one port
-
-takes-then : (xs ys : List (Option Letter)) (old middle new : Option (List Letter)) → old ≡ option_map (λ rest. taken xs ++ rest) middle → middle ≡ option_map (λ rest. taken ys ++ rest) new
-    → old ≡ option_map (λ rest. taken (xs ++ ys) ++ rest) new
-takes-then xs ys old middle None a b = a ∙ ap (λ (o : Option (List Letter)). option_map (λ rest. taken xs ++ rest) o) b
-takes-then xs ys old middle (Some rest) a b =
-    a ∙ ap (λ (o : Option (List Letter)). option_map (λ rest. taken xs ++ rest) o) b
-    ∙ ap (λ (k : List Letter). Some k) (sym (append_assoc (taken xs) (taken ys) rest) ∙ ap (λ (k : List Letter). k ++ rest) (sym (taken-append xs ys)))
-
-quiet-then : (xs ys : List (Option Letter)) (middle new : Option (List Letter)) → middle ≡ option_map (λ rest. taken ys ++ rest) new → IfSome middle (IsQuietAtEnd xs) → IfSome new (IsQuietAtEnd ys) → IfSome new (IsQuietAtEnd (xs ++ ys))
-quiet-then xs ys middle None e first second = tt
-quiet-then xs ys middle (Some rest) e first second =
-    quiet-append xs ys rest (subst (λ (o : Option (List Letter)). IfSome o (IsQuietAtEnd xs)) e first) second
-
-adds-then : (xs ys : List Sending) (old middle new : Option (List Letter)) → middle ≡ option_map (λ gone. gone ++ went xs) old → new ≡ option_map (λ gone. gone ++ went ys) middle → new ≡ option_map (λ gone. gone ++ went (xs ++ ys)) old
-adds-then xs ys None middle new a b = b ∙ ap (λ (o : Option (List Letter)). option_map (λ gone. gone ++ went ys) o) a
-adds-then xs ys (Some gone) middle new a b =
-    b ∙ ap (λ (o : Option (List Letter)). option_map (λ gone. gone ++ went ys) o) a
-    ∙ ap (λ (k : List Letter). Some k) (append_assoc gone (went xs) (went ys) ∙ ap (λ (k : List Letter). gone ++ k) (sym (went-append xs ys)))
-
-missing-then : (a b c x y z : ℕ) → z ≡ x + y → min (a + x) (2 ^ 64 - 1) ≤ b → min (b + y) (2 ^ 64 - 1) ≤ c → min (a + z) (2 ^ 64 - 1) ≤ c
-missing-then a b c x y z e f g = omega arith
-
-exchanges-then : {xs ys : List (Option Letter)} {ss ts : List Sending} {old middle new : Wire} → Exchanges xs ss old middle → Exchanges ys ts middle new → Exchanges (xs ++ ys) (ss ++ ts) old new
-exchanges-then {xs} {ys} {ss} {ts} {old} {middle} {new} first second = record {
-  takes = takes-then xs ys old.arriving middle.arriving new.arriving first.takes second.takes;
-  quiet = quiet-then xs ys middle.arriving new.arriving second.takes first.quiet second.quiet;
-  adds = adds-then ss ts old.gone middle.gone new.gone first.adds second.adds;
-  missing = missing-then old.send_faults middle.send_faults new.send_faults (lost ss) (lost ts) (lost (ss ++ ts)) (lost-append ss ts) first.missing second.missing;
-  counted = omega (arith, first.counted, second.counted);
-}
-
-pub same_letters : (o : Option (List Letter)) → o ≡ option_map (λ rest. [] ++ rest) o
-same_letters None = refl
-same_letters (Some rest) = refl
-
-pub same_gone : (o : Option (List Letter)) → o ≡ option_map (λ gone. gone ++ []) o
-same_gone None = refl
-same_gone (Some gone) = ap (λ (k : List Letter). Some k) (sym (append-nil gone))
-
-pub none_quiet : (o : Option (List Letter)) → IfSome o (IsQuietAtEnd [])
-none_quiet None = tt
-none_quiet (Some rest) = tt
-
-exchanges_nothing : (wire : Wire) → Exchanges [] [] wire wire
-exchanges_nothing wire = record {
-  takes = same_letters wire.arriving;
-  quiet = none_quiet wire.arriving;
-  adds = same_gone wire.gone;
-  missing = omega arith;
-  counted = omega arith;
-}
 
 -- ---- with a count of the sends that failed
 
@@ -119,7 +42,7 @@ counted-append f (x ∷ xs) ys = counted-append (cond x.is_lost (one_more f) f) 
 pub posts-then : {xs ys : List (Option Letter)} {ls ms : List Letter} {f g h : ℕ} {old middle new : Wire} → Posts xs ls f g old middle → Posts ys ms g h middle new → Posts (xs ++ ys) (ls ++ ms) f h old new
 posts-then {xs} {ys} {ls} {ms} {f} {g} {h} first second = record {
   sendings = first.sendings ++ second.sendings;
-  given = letters-append first.sendings second.sendings ∙ ap (λ (k : List Letter). k ++ letters_in second.sendings) first.given ∙ ap (λ (k : List Letter). ls ++ k) second.given;
+  given = letters_in-append first.sendings second.sendings ∙ ap (λ (k : List Letter). k ++ letters_in second.sendings) first.given ∙ ap (λ (k : List Letter). ls ++ k) second.given;
   exchanges = exchanges-then first.exchanges second.exchanges;
   faults_are = second.faults_are ∙ ap (λ (k : ℕ). counted k second.sendings) first.faults_are ∙ sym (counted-append f first.sendings second.sendings);
 }
@@ -131,30 +54,15 @@ pub posts_gone : (to : Addr) (octets : List ℕ) (f : ℕ) (old new : Wire) → 
 posts_gone to octets f old new s = record {
   sendings = record { letter = record { addr = to; octets = octets }; is_lost = false } ∷ [];
   given = refl;
-  exchanges = record {
-    takes = subst (λ (o : Option (List Letter)). old.arriving ≡ option_map (λ rest. [] ++ rest) o) (sym s.arriving) (same_letters old.arriving);
-    quiet = none_quiet new.arriving;
-    adds = s.adds;
-    missing = omega (arith, s.counted);
-    counted = omega (arith, s.receives);
-  };
+  exchanges = exchanges_gone (record { addr = to; octets = octets }) old new s;
   faults_are = refl;
 }
-
-missing_one : (old new : ℕ) → old ≤ new → Rose old new → min (old + 1) (2 ^ 64 - 1) ≤ new
-missing_one old new counted rose = grind (arith, counted, rose)
 
 pub posts_lost : (to : Addr) (octets : List ℕ) (f f' : ℕ) (old new : Wire) → f' ≡ one_more f → Sends sent.Failed (record { addr = to; octets = octets }) old new → Posts [] (letters_to octets (to ∷ [])) f f' old new
 posts_lost to octets f f' old new e s = record {
   sendings = record { letter = record { addr = to; octets = octets }; is_lost = true } ∷ [];
   given = refl;
-  exchanges = record {
-    takes = subst (λ (o : Option (List Letter)). old.arriving ≡ option_map (λ rest. [] ++ rest) o) (sym s.arriving) (same_letters old.arriving);
-    quiet = none_quiet new.arriving;
-    adds = s.adds ∙ same_gone old.gone;
-    missing = missing_one old.send_faults new.send_faults s.counted s.failed;
-    counted = omega (arith, s.receives);
-  };
+  exchanges = exchanges_lost (record { addr = to; octets = octets }) old new s;
   faults_are = e;
 }
 

@@ -12,116 +12,29 @@ use Rattle.jm_desk.specs.Sharing.{Shared, PassView}
 use Rattle.jm_serve.specs.declared.worked.Rounded.{Rounded}
 use Rattle.jm_serve.specs.declared.worked.Rounded.TheVariants as rounded
 use Rattle.jm_serve.specs.declared.worked.WorkEnd.TheVariants as ends
-use Rattle.jm_serve.specs.Exchange.{taken, IsQuietAtEnd, Exchanges, Posts}
+use Rattle.jm_edge.specs.Exchange.{Exchanges}
+use Rattle.jm_edge.specs.ExchangeLaws.{takes_one, takes_none, takes_nothing}
+use Rattle.jm_edge.specs.Moments.{Gave}
+use Rattle.jm_edge.specs.MomentLaws.{gave-then, gave_one, gave_nothing}
+use Rattle.jm_serve.specs.Exchange.{Posts}
 use Rattle.jm_serve.specs.Acts.{Act, Scene, Works}
-use Rattle.jm_serve.specs.Moments.{AreFirst, behind, Gave}
 use Rattle.jm_serve.specs.Rounds.{Round, start, then_round, acts_of, letters_of, givens_of, none_yet, one_more, DoesRound, Outside, Makes, MakesOne, Breaks, MakesRounds}
-use Rattle.jm_serve.proofs.Joins.{works-then, works_nothing, gains_nothing, same_letters, same_gone, none_quiet}
-
--- ---- the clock
-
-first-append : (xs ys : List ℕ) (coming : ℕ → ℕ) → AreFirst xs coming → AreFirst ys (behind xs coming) → AreFirst (xs ++ ys) coming
-first-append [] ys coming first second = second
-first-append (x ∷ xs) ys coming first second = (first.0, first-append xs ys (later coming) first.1 second)
-
-behind-append : (xs ys : List ℕ) (coming : ℕ → ℕ) → behind (xs ++ ys) coming ≡ behind ys (behind xs coming)
-behind-append [] ys coming = refl
-behind-append (x ∷ xs) ys coming = behind-append xs ys (later coming)
-
-first-then : (xs ys : List ℕ) (old middle : Option (ℕ → ℕ)) → middle ≡ option_map (behind xs) old → IfSome old (AreFirst xs) → IfSome middle (AreFirst ys) → IfSome old (AreFirst (xs ++ ys))
-first-then xs ys None middle e first second = tt
-first-then xs ys (Some coming) middle e first second =
-    first-append xs ys coming first (subst (λ (o : Option (ℕ → ℕ)). IfSome o (AreFirst ys)) e second)
-
-others-then : (xs ys : List ℕ) (old : Option (ℕ → ℕ)) → option_map (behind ys) (option_map (behind xs) old) ≡ option_map (behind (xs ++ ys)) old
-others-then xs ys None = refl
-others-then xs ys (Some coming) = ap (λ (k : ℕ → ℕ). Some k) (sym (behind-append xs ys coming))
-
-gave-then : {xs ys : List ℕ} {old middle new : Option (ℕ → ℕ)} → Gave xs old middle → Gave ys middle new → Gave (xs ++ ys) old new
-gave-then {xs} {ys} {old} {middle} {new} first second = record {
-  first = first-then xs ys old middle first.others first.first second.first;
-  others = second.others ∙ ap (λ (o : Option (ℕ → ℕ)). option_map (behind ys) o) first.others ∙ others-then xs ys old;
-}
-
-gave_first : (moment : ℕ) (old : Option (ℕ → ℕ)) → IfSome old (λ coming. moment ≡ coming 0) → IfSome old (AreFirst (moment ∷ []))
-gave_first moment None h = tt
-gave_first moment (Some coming) h = (h, tt)
-
-gave_others : (moment : ℕ) (old : Option (ℕ → ℕ)) → option_map later old ≡ option_map (behind (moment ∷ [])) old
-gave_others moment None = refl
-gave_others moment (Some coming) = refl
-
-pub gave_one : (moment : ℕ) (old new : Option (ℕ → ℕ)) → Ticks moment old new → Gave (moment ∷ []) old new
-gave_one moment old new t = record { first = gave_first moment old t.first; others = t.others ∙ gave_others moment old }
-
-gave_same : (old : Option (ℕ → ℕ)) → old ≡ option_map (behind []) old
-gave_same None = refl
-gave_same (Some coming) = refl
-
-gave_quiet : (old : Option (ℕ → ℕ)) → IfSome old (AreFirst [])
-gave_quiet None = tt
-gave_quiet (Some coming) = tt
-
-gave_nothing : (old : Option (ℕ → ℕ)) → Gave [] old old
-gave_nothing old = record { first = gave_quiet old; others = gave_same old }
+use Rattle.jm_serve.proofs.Joins.{works-then, works_nothing, gains_nothing}
 
 -- ---- one receive
-
-one_letter : (letter : Letter) (old new : Option (List Letter)) → old ≡ option_map (λ rest. letter ∷ rest) new → old ≡ option_map (λ rest. taken (Some letter ∷ []) ++ rest) new
-one_letter letter old None e = e
-one_letter letter old (Some rest) e = e
-
-one_quiet : (letter : Letter) (new : Option (List Letter)) → IfSome new (IsQuietAtEnd (Some letter ∷ []))
-one_quiet letter None = tt
-one_quiet letter (Some rest) = tt
-
-still_gone : (old new : Option (List Letter)) → new ≡ old → new ≡ option_map (λ gone. gone ++ []) old
-still_gone old new e = e ∙ same_gone old
-
-nothing_there : (old new : Option (List Letter)) → new ≡ old → IfSome old (λ rest. rest ≡ []) → IfSome new (IsQuietAtEnd (None ∷ []))
-nothing_there old None e h = tt
-nothing_there None (Some rest) e h = absurd cc
-nothing_there (Some left) (Some rest) e h = let same : rest ≡ left = cc in same ∙ h
-
-same_arriving : (old new : Option (List Letter)) → new ≡ old → old ≡ option_map (λ rest. [] ++ rest) new
-same_arriving old new e = sym e ∙ same_letters new
 
 posts_given : (given : Option Letter) (f : ℕ) (old new : Wire) → Exchanges (given ∷ []) [] old new → Posts (given ∷ []) [] f f old new
 posts_given given f old new e = record { sendings = []; given = refl; exchanges = e; faults_are = refl }
 
 pub posts_got : (len : ℕ) (from : Addr) (buffer : List ℕ) (f : ℕ) (old new : Wire) → Receives (recv.Got len from) buffer old new → Posts (Some (record { addr = from; octets = take len buffer }) ∷ []) [] f f old new
 posts_got len from buffer f old new r =
-    posts_given (Some (record { addr = from; octets = take len buffer })) f old new (record {
-      takes = one_letter (record { addr = from; octets = take len buffer }) old.arriving new.arriving r.takes;
-      quiet = one_quiet (record { addr = from; octets = take len buffer }) new.arriving;
-      adds = still_gone old.gone new.gone r.gone;
-      missing = omega (arith, r.sends);
-      counted = r.counted;
-    })
+    posts_given (Some (record { addr = from; octets = take len buffer })) f old new (takes_one len from buffer old new r)
 
 pub posts_quiet : (buffer : List ℕ) (f : ℕ) (old new : Wire) → Receives recv.Quiet buffer old new → Posts (None ∷ []) [] f f old new
-posts_quiet buffer f old new r =
-    posts_given None f old new (record {
-      takes = same_arriving old.arriving new.arriving r.takes.0;
-      quiet = nothing_there old.arriving new.arriving r.takes.0 r.takes.1;
-      adds = still_gone old.gone new.gone r.gone;
-      missing = omega (arith, r.sends);
-      counted = r.counted;
-    })
+posts_quiet buffer f old new r = posts_given None f old new (takes_none buffer old new r)
 
 posts_broken : (buffer : List ℕ) (f : ℕ) (old new : Wire) → Receives recv.Failed buffer old new → Posts [] [] f f old new
-posts_broken buffer f old new r = record {
-  sendings = [];
-  given = refl;
-  exchanges = record {
-    takes = same_arriving old.arriving new.arriving r.takes;
-    quiet = none_quiet new.arriving;
-    adds = still_gone old.gone new.gone r.gone;
-    missing = omega (arith, r.sends);
-    counted = r.counted;
-  };
-  faults_are = refl;
-}
+posts_broken buffer f old new r = record { sendings = []; given = refl; exchanges = takes_nothing buffer old new r; faults_are = refl }
 
 pub broken : (desk : Shared) (buffer : List ℕ) (pass : PassView) (call faults : ℕ) (wire wire' : Wire) (coming : Option (ℕ → ℕ)) → Receives recv.Failed buffer wire wire'
     → Breaks desk (record { scene = record { pass = pass; wire = wire; call = call; faults = faults }; coming = coming }) (record { scene = record { pass = pass; wire = wire'; call = call; faults = faults }; coming = coming })

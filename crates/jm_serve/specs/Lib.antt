@@ -1,7 +1,6 @@
 pub mod Exchange
 pub mod Acts
 pub mod Pump
-pub mod Moments
 pub mod Rounds
 pub mod Messages
 pub mod Control

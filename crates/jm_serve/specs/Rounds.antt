@@ -12,7 +12,7 @@ use Rattle.jm_serve.specs.declared.worked.Rounded.{Rounded}
 use Rattle.jm_serve.specs.declared.worked.Rounded.TheVariants as rounded
 use Rattle.jm_serve.specs.declared.worked.WorkEnd.{WorkEnd}
 use Rattle.jm_serve.specs.declared.worked.WorkEnd.TheVariants as ends
-use Rattle.jm_serve.specs.Moments.{Gave}
+use Rattle.jm_edge.specs.Moments.{Gave}
 use Rattle.jm_serve.specs.Acts.{Act, Scene, Works}
 
 -- the datagram of these octets, where one came

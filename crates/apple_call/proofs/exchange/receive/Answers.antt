@@ -4,7 +4,7 @@ use Rattle.apple_msg.specs.declared.message.Message.{Message}
 use Rattle.apple_msg.specs.declared.message.MsgFault.{MsgFault}
 use Rattle.std.specs.declared.result.Result.{Result}
 use Rattle.apple_call.specs.Turns.{said}
-use Rattle.apple_call.proofs.Joins.{takes_one}
+use Rattle.jm_edge.specs.ExchangeLaws.{takes_one}
 use Rattle.apple_call.proofs.exchange.receive.Goals as goal
 
 pub returns-in-Ok-clause-ok : goal.returns-in-Ok-clause-ok

@@ -1,7 +1,6 @@
-use Rattle.std.proofs.Common.{ap, sym, ◌∙◌}
-use Rattle.jm_cmds.specs.History.{standing, coded}
+use Rattle.std.proofs.Common.{ap, ◌∙◌}
+use Rattle.jm_cmds.specs.History.{standing}
 use Rattle.jm_cmds.specs.Keys.{key_count}
-use Rattle.jm_cmds.specs.Sent.{packet_of}
 use Rattle.ch_notes.specs.PolyEvent.{poly_ends, poly_key}
 use Rattle.ch_notes.specs.ChapterA.{poly_count}
 use Rattle.ch_notes.specs.PressLaws.{logs-keys}

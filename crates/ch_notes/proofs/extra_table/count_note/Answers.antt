@@ -1,4 +1,4 @@
-use Rattle.std.proofs.Common.{◌≡◌, ◌<◌, ◌+◌, ◌-◌, length, get_or, min, arith}
+use Rattle.std.proofs.Common.{◌≡◌, ◌<◌, length, arith}
 use Rattle.ch_notes.specs.NoteEvent.{IsWithin}
 use Rattle.ch_notes.specs.declared.events.NoteEvent.TheVariants.{Struck, Released}
 use Rattle.ch_notes.specs.ExtraTableLaws.{counts_struck, counts_released, counts_cleared, counts_other}

@@ -1,4 +1,4 @@
-use Rattle.std.proofs.Common.{◌≡◌, length}
+use Rattle.std.proofs.Common.{length}
 use Rattle.jm_wire.specs.Octets.{Owes}
 use Rattle.jm_recency.specs.Recency.{from_key, IsAtKey}
 use Rattle.ch_notes.specs.KeptRows.{key_texts}

@@ -1,4 +1,4 @@
-use Rattle.std.proofs.Common.{◌≡◌, ◌<◌, ◌∙◌}
+use Rattle.std.proofs.Common.{◌∙◌}
 use Rattle.ch_notes.specs.NoteEvent.{IsWithin}
 use Rattle.ch_notes.specs.declared.events.NoteEvent.TheVariants.{Struck}
 use Rattle.ch_notes.specs.NoteTableLaws.{noted_struck, noted_released, noted_cleared, noted_other}

@@ -1,4 +1,4 @@
-use Rattle.std.proofs.Common.{◌≡◌, ◌+◌, ◌*◌, ◌≤◌, ◌++◌, ℕ, drop, filter, length}
+use Rattle.std.proofs.Common.{◌≡◌, drop}
 use Rattle.ch_param.specs.ParamTable.{half_of}
 use Rattle.ch_param.proofs.param_table.half_of.Given as goal
 

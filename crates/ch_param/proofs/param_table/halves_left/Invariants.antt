@@ -1,4 +1,4 @@
-use Rattle.std.proofs.Common.{◌≡◌, ◌+◌, ◌*◌, ◌≤◌, ◌++◌, ℕ, drop, filter, length}
+use Rattle.std.proofs.Common.{◌≡◌, ◌≤◌, ◌++◌, drop, filter}
 use Rattle.arrayvec.specs.ArrayVec.{array_vec_len}
 use Rattle.ch_param.specs.ParamTable.{is_left}
 use Rattle.ch_param.proofs.param_table.halves_left.Given as goal

@@ -1,4 +1,4 @@
-use Rattle.std.proofs.Common.{◌≡◌, ◌+◌, ◌*◌, ◌≤◌, ◌++◌, ℕ, drop, filter, length}
+use Rattle.std.proofs.Common.{◌≡◌, length}
 use Rattle.ch_param.specs.ParamTable.{has_row}
 use Rattle.ch_param.proofs.param_table.has.Given as goal
 

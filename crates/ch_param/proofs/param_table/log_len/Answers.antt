@@ -1,6 +1,5 @@
-use Rattle.std.proofs.Common.{◌≡◌, ◌+◌, eqb, length}
+use Rattle.std.proofs.Common.{◌+◌, eqb}
 use Rattle.jm_cmds.specs.Sent.{s_of}
-use Rattle.ch_param.specs.ParamTable.{row_log}
 use Rattle.ch_param.proofs.param_table.log_len.Goals as goal
 
 pub returns-clause-number : goal.returns-clause-number

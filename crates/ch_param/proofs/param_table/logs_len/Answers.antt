@@ -1,7 +1,7 @@
-use Rattle.std.proofs.Common.{◌≡◌, ◌+◌, ◌*◌, ◌≤◌, ◌<◌, ◌∷◌, ℕ, List, length, ap, arith, length-append}
+use Rattle.std.proofs.Common.{◌≡◌, ◌<◌, ◌∷◌, List, length, ap, arith, length-append}
 use Rattle.std.specs.List.{flat_map}
 use Rattle.ch_param.specs.declared.param_table.HalfRow.{HalfRow}
-use Rattle.ch_param.specs.ParamTable.{row_log, row_logs, last_halves}
+use Rattle.ch_param.specs.ParamTable.{row_log, last_halves}
 use Rattle.ch_param.proofs.param_table.logs_len.Goals as goal
 
 pub loop-row-preserved : goal.loop-row-preserved

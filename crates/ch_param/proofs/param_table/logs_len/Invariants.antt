@@ -1,4 +1,4 @@
-use Rattle.std.proofs.Common.{◌≡◌, ◌+◌, ◌*◌, ◌≤◌, ◌++◌, ℕ, drop, filter, length}
+use Rattle.std.proofs.Common.{◌≡◌, ◌+◌, ◌*◌, ◌≤◌, ℕ, length}
 use Rattle.std.specs.List.{flat_map}
 use Rattle.ch_param.specs.ParamTable.{row_log, row_logs, last_halves}
 use Rattle.ch_param.proofs.param_table.logs_len.Given as goal

@@ -1,4 +1,4 @@
-use Rattle.std.proofs.Common.{◌≡◌, ◌+◌, ◌*◌, ◌≤◌, ◌++◌, ℕ, drop, filter, length}
+use Rattle.std.proofs.Common.{length}
 use Rattle.std.specs.List.{flat_map}
 use Rattle.jm_wire.specs.Octets.{Owes}
 use Rattle.ch_param.specs.ParamTable.{row_log, row_logs, last_halves}

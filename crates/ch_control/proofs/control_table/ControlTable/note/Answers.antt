@@ -1,4 +1,3 @@
-use Rattle.std.proofs.Common.{ap}
 use Rattle.ch_control.specs.TableLaws.{controls_push, noted_up_to}
 use Rattle.ch_control.proofs.control_table.ControlTable.note.Goals as goal
 

@@ -1,4 +1,3 @@
-use Rattle.ch_notes.specs.KeptRows.{RowsUpTo}
 use Rattle.ch_notes.specs.PolyTableLaws.{mute_up_to, noted_dropped, noted_other}
 use Rattle.ch_notes.proofs.poly_table.PolyTable.change.Goals as goal
 

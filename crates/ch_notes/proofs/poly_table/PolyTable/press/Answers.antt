@@ -1,4 +1,4 @@
-use Rattle.std.proofs.Common.{◌≡◌, ◌<◌, ℕ, length, arith}
+use Rattle.std.proofs.Common.{◌≡◌, ◌<◌, length, arith}
 use Rattle.ch_notes.specs.KeptRows.{RowsUpTo}
 use Rattle.ch_notes.specs.PolyTable.{press_rows}
 use Rattle.ch_notes.specs.PolyTableLaws.{stamps_order, rows_pressed}

@@ -1,4 +1,4 @@
-use Rattle.std.proofs.Common.{◌≡◌, ap, sym, ◌∙◌}
+use Rattle.std.proofs.Common.{◌≡◌, ap, ◌∙◌}
 use Rattle.ch_sysex.specs.SysexTable.{SysexKept, AreLogsUpTo, log_packet, logs_in}
 use Rattle.ch_sysex.proofs.KeptLaws.{push_kept}
 use Rattle.ch_sysex.proofs.table.Table.change.Goals as goal

@@ -1,4 +1,4 @@
-use Rattle.std.proofs.Common.{◌≡◌, ap, sym, ◌∙◌}
+use Rattle.std.proofs.Common.{◌≡◌, ap, sym}
 use Rattle.std.proofs.lemmas.Bool.{ltb-true, ltb-false}
 use Rattle.ch_sysex.specs.SysexTable.{SysexKept, logs_in}
 use Rattle.ch_sysex.proofs.KeptLaws.{first_none, first_late, first_early}

@@ -1,4 +1,4 @@
-use Rattle.std.proofs.Common.{length, ap, sym, ◌∙◌}
+use Rattle.std.proofs.Common.{length, ap, ◌∙◌}
 use Rattle.ch_sysex.specs.SysexTable.{SysexKept}
 use Rattle.ch_sysex.specs.TableLaws.{logs_kept}
 use Rattle.ch_sysex.proofs.table.Table.logs.Goals as goal

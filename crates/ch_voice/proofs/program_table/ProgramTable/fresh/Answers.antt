@@ -1,4 +1,4 @@
-use Rattle.std.proofs.Common.{ℕ, List, ap, ◌∙◌}
+use Rattle.std.proofs.Common.{ap, ◌∙◌}
 use Rattle.std.specs.List.{list_any}
 use Rattle.ch_voice.specs.ProgramTable.{ProgramsKept}
 use Rattle.jm_cmds.specs.KeptItem.{kept_fresh}

@@ -1,4 +1,4 @@
-use Rattle.std.proofs.Common.{ℕ, List, ap, ◌∙◌}
+use Rattle.std.proofs.Common.{ap, ◌∙◌}
 use Rattle.ch_voice.specs.ProgramTable.{ProgramsKept}
 use Rattle.ch_voice.specs.ProgramTable.{programs_text}
 use Rattle.ch_voice.specs.TableLaws.{program_coded}
