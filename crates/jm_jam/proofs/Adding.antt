@@ -24,11 +24,11 @@ use Rattle.jm_jam.specs.Working.{GoesBefore, Trying, Playing, Reporting, Cutting
 
 -- ---- turns
 
-begins-then : (a b c : List (Made DeskTurn)) → Begins a b → Begins b c → Begins a c
+pub begins-then : (a b c : List (Made DeskTurn)) → Begins a b → Begins b c → Begins a c
 begins-then a b c first second =
     (first.0 ++ second.0, second.1 ∙ ap (λ (k : List (Made DeskTurn)). k ++ second.0) first.1 ∙ append_assoc a first.0 second.0)
 
-goes_on-then : (old middle new : PassView) → GoesOn old middle → GoesOn middle new → GoesOn old new
+pub goes_on-then : (old middle new : PassView) → GoesOn old middle → GoesOn middle new → GoesOn old new
 goes_on-then old middle new first second =
     second ∙ ap (λ (p : PassView). record p { view = record p.view { stage = new.view.stage; ticket = new.view.ticket; seen = new.view.seen; mine = new.view.mine } }) first
 

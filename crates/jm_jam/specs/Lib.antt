@@ -1,5 +1,9 @@
 pub mod Crew
+pub mod Laws
 pub mod Made
+pub mod Parting
+pub mod Plays
 pub mod Summary
+pub mod Whole
 pub mod Workers
 pub mod Working

@@ -19,3 +19,5 @@ pub mod About
 pub mod Invitation
 pub mod Ended
 pub mod Invite
+pub mod JamWords
+pub mod Jam

@@ -1,5 +1,5 @@
 //! The program: a verb's script is read from standard input, and its answers go to standard output. `invite` calls another host
-//! over two ports instead.
+//! over two ports instead, and `jam` has threads share a session.
 #![tactic(auto)]
 
 mod about;
@@ -9,6 +9,8 @@ mod conversation;
 mod ended;
 mod invitation;
 mod invite;
+mod jam;
+mod jam_words;
 mod line_reader;
 mod players;
 mod read;
@@ -27,7 +29,8 @@ mod writing;
 
 use about::about;
 use invite::run_invite;
-use jm_edge::{Addr, ReadSource, UdpPort, WallTicker, WriteSink};
+use jam::run_jam;
+use jm_edge::{Addr, FreeGate, ReadSource, UdpPort, WallTicker, WriteSink};
 use run::run;
 use status::Status;
 use std::alloc::{AllocError, Global};
@@ -40,7 +43,7 @@ use verb_choice::verb;
 use verb_kind::Verb;
 use word::Word;
 
-const USAGE: &str = "usage: midi_host replay|read|repair|invite ADDR TURNS";
+const USAGE: &str = "usage: midi_host replay|read|repair|jam SEED COUNT|invite ADDR TURNS";
 
 /// The number with which the process ends where no port could be opened.
 const NO_PORT: u8 = 7;
@@ -121,6 +124,12 @@ fn answer(words: &[Word], rt: &HostRuntime) -> u8 {
             let mut source = ReadSource::new(rt.stdin());
             let mut sink = WriteSink::new(rt.stdout());
             run(words, &mut source, &mut sink, rt.alloc()).number()
+        }
+        Verb::Jam => {
+            let mut sink = WriteSink::new(rt.stdout());
+            run_jam(rt, words, &mut sink, &FreeGate, rt.alloc())
+                .status
+                .number()
         }
         Verb::Invite => call(words, rt),
     }

@@ -12,6 +12,7 @@ pub fn verb(words: &[Word]) -> Verb
 {
     match words {
         [first, ..] if first.as_bytes() == b"invite".as_slice() => Verb::Invite,
+        [first, ..] if first.as_bytes() == b"jam".as_slice() => Verb::Jam,
         _ => Verb::Plain,
     }
 }

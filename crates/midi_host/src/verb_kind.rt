@@ -5,6 +5,8 @@
 pub enum Verb {
     /// The one that reads lines, also where there is no word or another one.
     Plain,
+    /// `jam`: the one in which threads share a session.
+    Jam,
     /// `invite`: the one that calls another host.
     Invite,
 }
