@@ -224,9 +224,9 @@ fn all_notes(rt: HostRuntime) -> Result<(), Fail> {
     Ok(())
 }
 
-/// 2,000 commands, since what the plain functions of Chapter E take grows with the square of the list.
+/// 10,000 commands.
 #[test]
 fn tables_and_plain_functions_tell_the_same(rt: HostRuntime) -> Result<(), Fail> {
     let alloc = rt.alloc();
-    compare_rounds(&rt, &mut Notes::none(), &mut Notes::none(), 10, alloc)
+    compare_rounds(&rt, &mut Notes::none(), &mut Notes::none(), 50, alloc)
 }

@@ -183,9 +183,9 @@ fn sixteen_parameters(rt: HostRuntime) -> Result<(), Fail> {
     Ok(())
 }
 
-/// 2,000 commands, since what the plain functions take grows with the square of the list.
+/// 10,000 commands.
 #[test]
 fn the_table_and_plain_functions_tell_the_same(rt: HostRuntime) -> Result<(), Fail> {
     let alloc = rt.alloc();
-    compare_rounds(&rt, &mut Params::none(), &mut Params::none(), 10, alloc)
+    compare_rounds(&rt, &mut Params::none(), &mut Params::none(), 50, alloc)
 }
