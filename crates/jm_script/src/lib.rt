@@ -31,3 +31,4 @@ pub use line::{Line, LineFault, LineKind};
 pub use name::PlayerName;
 pub use printing::{answer_len, write_answer};
 pub use reading::read_line;
+pub use words::{addr, number};

@@ -33,8 +33,9 @@ pub(crate) fn split_word(line: &[u8]) -> (&[u8], Option<&[u8]>)
     split_at_octet(line, SPACE)
 }
 
-/// The number that a word writes: decimal digits without a leading zero, at most `most`.
-pub(crate) fn number(word: &[u8], most: u64) -> Option<u64>
+/// The number that a word writes: decimal digits without a leading zero, at most `most`. Another word is `None`, and so is a
+/// greater number.
+pub fn number(word: &[u8], most: u64) -> Option<u64>
     requires { most ≤ 2 ^ 62 }
     ensures value { result ≡ number_of most word.now }
     ensures bound { IfSome result (λ n. n ≤ most) }
@@ -134,8 +135,9 @@ fn port_number(behind: Option<&[u8]>) -> Option<u16>
     Some(port as u16)
 }
 
-/// The address that a word writes: eight hexadecimal digits, a colon and a port of at most 65,535.
-pub(crate) fn addr(word: &[u8]) -> Option<Addr>
+/// The address that a word writes: eight hexadecimal digits, the high digit first, a colon and a port of at most 65,535. Another
+/// word is `None`.
+pub fn addr(word: &[u8]) -> Option<Addr>
     ensures { result ≡ addr_of word.now }
 {
     let (host, behind) = split_at_octet(word, b':');

@@ -1,11 +1,9 @@
 -- What was done first and what was done then is what was done.
-use Rattle.std.proofs.Common.{◌≡◌, ℕ, suc, ◌+◌, ◌-◌, ◌^◌, ◌%◌, ◌≤◌, ◌<◌, min, Bool, true, false, cond, List, [], ◌∷◌, ◌++◌, length, drop, get_or, Option, Some, None, refl, sym, ap, subst, ◌∙◌, append_assoc, arith}
-use Rattle.std.specs.Prelude.{IfSome}
-use Rattle.std.specs.Option.{option_map}
+use Rattle.std.proofs.Common.{◌≡◌, ℕ, suc, ◌+◌, ◌%◌, ◌<◌, true, false, cond, List, [], ◌∷◌, ◌++◌, length, drop, get_or, Option, refl, sym, ap, subst, ◌∙◌, append_assoc, arith}
 use Rattle.std.proofs.lemmas.List.{append-nil}
 use Rattle.std.proofs.Math.Seq.{drop-cons}
 use Rattle.jm_edge.specs.declared.Addr.{Addr}
-use Rattle.jm_edge.specs.Faults.{Rose, one_more}
+use Rattle.jm_edge.specs.Faults.{one_more}
 use Rattle.jm_edge.specs.Wire.{Letter, Wire, Sends}
 use Rattle.jm_edge.specs.declared.port.Sent.TheVariants as sent
 use Rattle.jm_turn.specs.declared.view.Made.{Made}

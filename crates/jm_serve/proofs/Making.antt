@@ -1,11 +1,9 @@
 -- Rounds, put together one after another.
-use Rattle.std.proofs.Common.{◌≡◌, ℕ, ◌+◌, ◌≤◌, ◌<◌, List, [], ◌∷◌, ◌++◌, take, Option, Some, None, refl, sym, ap, subst, ◌∙◌, inl, inr, arith}
-use Rattle.std.specs.Prelude.{IfSome}
-use Rattle.std.specs.Option.{option_map}
+use Rattle.std.proofs.Common.{◌≡◌, ℕ, ◌+◌, ◌≤◌, ◌<◌, List, [], ◌∷◌, ◌++◌, take, Option, Some, None, refl, ap, subst, ◌∙◌, inl, inr, arith}
 use Rattle.std.proofs.lemmas.List.{append-nil}
 use Rattle.jm_edge.specs.declared.Addr.{Addr}
 use Rattle.jm_edge.specs.Faults.{Rose}
-use Rattle.jm_edge.specs.Ticks.{later, Ticks}
+use Rattle.jm_edge.specs.Ticks.{Ticks}
 use Rattle.jm_edge.specs.Wire.{Letter, Wire, Receives}
 use Rattle.jm_edge.specs.declared.port.Recv.TheVariants as recv
 use Rattle.jm_desk.specs.Sharing.{Shared, PassView}
@@ -14,7 +12,6 @@ use Rattle.jm_serve.specs.declared.worked.Rounded.TheVariants as rounded
 use Rattle.jm_serve.specs.declared.worked.WorkEnd.TheVariants as ends
 use Rattle.jm_edge.specs.Exchange.{Exchanges}
 use Rattle.jm_edge.specs.ExchangeLaws.{takes_one, takes_none, takes_nothing}
-use Rattle.jm_edge.specs.Moments.{Gave}
 use Rattle.jm_edge.specs.MomentLaws.{gave-then, gave_one, gave_nothing}
 use Rattle.jm_serve.specs.Exchange.{Posts}
 use Rattle.jm_serve.specs.Acts.{Act, Scene, Works}

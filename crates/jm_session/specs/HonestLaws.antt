@@ -193,7 +193,7 @@ packets_stay config steps more =
     let all : length (stream_of (steps ++ more)).packets ≡ length (stream_of steps).packets + length on.later = ap length on.parts ∙ length-append (stream_of steps).packets on.later in
     omega (arith, all, packets_are config steps, packets_are config (steps ++ more))
 
-same_sent : (config : Config) (steps more : List Step) (next : ℕ) → next ≤ number_of (session_of config steps) → below packet_of next (sent_in (session_of config (steps ++ more))) ≡ below packet_of next (sent_in (session_of config steps))
+pub same_sent : (config : Config) (steps more : List Step) (next : ℕ) → next ≤ number_of (session_of config steps) → below packet_of next (sent_in (session_of config (steps ++ more))) ≡ below packet_of next (sent_in (session_of config steps))
 same_sent config steps more next l =
     ap (λ (stream : Stream). below packet_of next (sent_of stream)) (session_stream config (steps ++ more))
     ∙ sent_stays steps more next (omega (arith, packets_are config steps))
@@ -222,7 +222,7 @@ cuts_few (Say port from message now ∷ steps) = omega (arith, cuts_few steps)
 packets_fit : (config : Config) (steps : List Step) → IsLegal config steps → number_of (session_of config steps) ≤ config.events
 packets_fit config steps legal = omega (arith, packets_are config steps, counts_cuts steps, cuts_few steps, legal_fits config steps legal)
 
-first_have : (before later : List Step) → HaveCommands (before ++ later) → HaveCommands before
+pub first_have : (before later : List Step) → HaveCommands (before ++ later) → HaveCommands before
 first_have [] later h = tt
 first_have (step ∷ before) later h = (h.0, first_have before later h.1)
 

@@ -33,7 +33,7 @@ timed_commands : (before : ℕ) (own : List Sent) → commands_in (map item_of (
 timed_commands before [] = refl
 timed_commands before (one ∷ own) = ap (λ (l : List _). one.command ∷ l) (timed_commands one.tick own)
 
-own_commands : (own : List Sent) → commands_in (items_of (timed_of own)) ≡ map (λ one. one.command) own
+pub own_commands : (own : List Sent) → commands_in (items_of (timed_of own)) ≡ map (λ one. one.command) own
 own_commands [] = refl
 own_commands (one ∷ own) = timed_commands one.tick (one ∷ own)
 
@@ -52,7 +52,7 @@ cut_stream config steps tick =
     ∙ fold-append stream_after _ steps (Cut tick ∷ [])
     ∙ ap (λ (stream : Stream). cut_off stream tick) (sym (session_stream config steps))
 
-sent_by_cut : (config : Config) (steps : List Step) (tick : ℕ) → sent_in (session_of config (steps ++ Cut tick ∷ [])) ≡ sent_in (session_of config steps) ++ next_of (session_of config steps).stream tick
+pub sent_by_cut : (config : Config) (steps : List Step) (tick : ℕ) → sent_in (session_of config (steps ++ Cut tick ∷ [])) ≡ sent_in (session_of config steps) ++ next_of (session_of config steps).stream tick
 sent_by_cut config steps tick = ap sent_of (cut_stream config steps tick) ∙ cut_sent (session_of config steps).stream tick
 
 pub number_by_cut : (config : Config) (steps : List Step) (tick : ℕ) → number_of (session_of config (steps ++ Cut tick ∷ [])) ≡ number_of (session_of config steps) + 1
@@ -61,7 +61,7 @@ number_by_cut config steps tick =
     ∙ (let all = length-append (session_of config steps).stream.packets ((next_packet (session_of config steps).stream tick).packet ∷ []) in omega (arith, all))
 
 -- further steps leave what was sent by then
-sent_by_then : (config : Config) (steps more : List Step) (tick : ℕ) →
+pub sent_by_then : (config : Config) (steps more : List Step) (tick : ℕ) →
     below packet_of (number_of (session_of config steps) + 1) (sent_in (session_of config (steps ++ Cut tick ∷ more))) ≡ sent_in (session_of config (steps ++ Cut tick ∷ []))
 sent_by_then config steps more tick =
     let next = number_of (session_of config steps) + 1 in

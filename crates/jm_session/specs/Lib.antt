@@ -6,3 +6,6 @@ pub mod InStep
 pub mod InStepLaws
 pub mod Honest
 pub mod HonestLaws
+pub mod SameLogs
+pub mod Sending
+pub mod SendingLaws

@@ -6,6 +6,7 @@ ghost use Rattle.jm_session.specs.Packets.{CheckpointsAreTold, PacketsAreRead};
 ghost use Rattle.jm_session.specs.Honest.{HonestParticipantsStayInStep};
 ghost use Rattle.jm_session.specs.InStep.{ReceiversStayInStep};
 ghost use Rattle.jm_session.specs.Premises.{SentStays, SessionsAreRepaired, SessionsMeetPremises};
+ghost use Rattle.jm_session.specs.Sending.{SessionsSendPackets};
 
 use jm_packet::laws::headers_read_back;
 use jm_receiver::laws::{
@@ -76,6 +77,15 @@ pub fn receivers_stay_in_step()
     ensures { ReceiversStayInStep }
 {
     receivers_come_in_step();
+    packets_are_read();
+}
+
+/// What a cut writes is a packet of its session, in the words of the clause `in_step` of `Receiver::accept`: whatever steps come
+/// behind it, it is read as its number's low 16 bits, its own commands of all that the session sends, and the logs of its
+/// checkpoint; and these commands are as that clause asks. So what the clause says of any session holds of every session of a book.
+pub fn sessions_send_packets()
+    ensures { SessionsSendPackets }
+{
     packets_are_read();
 }
 

@@ -4,8 +4,8 @@ ghost use Rattle.std.specs.Prelude.{◌≡◌, ◌<◌, ◌≤◌, IfSome};
 ghost use Rattle.midi_host.specs.Invitation.{control_of, turns_of, invitation_of};
 
 use super::word::Word;
-use super::word_forms::{address, number};
 use jm_edge::Addr;
+use jm_script::{addr, number};
 
 /// The most turns that a call may have.
 const MOST_TURNS: u64 = 4_294_967_295;
@@ -24,7 +24,7 @@ fn control_address(word: &[u8]) -> Option<Addr>
     ensures value { result ≡ control_of word.now }
     ensures next { IfSome result (λ to. to.port < 65535) }
 {
-    let Some(to) = address(word) else {
+    let Some(to) = addr(word) else {
         return None;
     };
     if to.port < u16::MAX { Some(to) } else { None }

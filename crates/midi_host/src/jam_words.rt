@@ -4,8 +4,8 @@ ghost use Rattle.std.specs.Prelude.{◌≡◌, ◌≤◌, IfSome};
 ghost use Rattle.midi_host.specs.JamWords.{seed_of, count_of, jam_of};
 
 use super::word::Word;
-use super::word_forms::number;
 use jm_jam::GREATEST_SEED;
+use jm_script::number;
 
 /// The most steps that each worker of a jam makes.
 const MOST_STEPS: u64 = 4096;

@@ -24,7 +24,6 @@ mod status;
 mod verb_choice;
 mod verb_kind;
 mod word;
-mod word_forms;
 mod writing;
 
 use about::about;
