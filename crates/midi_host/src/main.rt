@@ -110,7 +110,7 @@ fn call(words: &[Word], rt: &HostRuntime) -> u8 {
     .number()
 }
 
-// Answers the words, and gives the number with which the process ends.
+// Answers lines, or tells of the program, and gives the number with which the process ends.
 fn answer(words: &[Word], rt: &HostRuntime) -> u8 {
     if let Some(text) = about(words) {
         return match print!(rt; "{text}") {
@@ -118,25 +118,23 @@ fn answer(words: &[Word], rt: &HostRuntime) -> u8 {
             Err(_) => Status::WriteFault.number(),
         };
     }
-    match verb(words) {
-        Verb::Plain => {
-            let mut source = ReadSource::new(rt.stdin());
-            let mut sink = WriteSink::new(rt.stdout());
-            run(words, &mut source, &mut sink, rt.alloc()).number()
-        }
-        Verb::Jam => {
-            let mut sink = WriteSink::new(rt.stdout());
-            run_jam(rt, words, &mut sink, &FreeGate, rt.alloc())
-                .status
-                .number()
-        }
-        Verb::Invite => call(words, rt),
-    }
+    let mut source = ReadSource::new(rt.stdin());
+    let mut sink = WriteSink::new(rt.stdout());
+    run(words, &mut source, &mut sink, rt.alloc()).number()
 }
 
 fn main(rt: HostRuntime) -> ExitCode {
     let number = match program_words(&rt) {
-        Ok(words) => answer(words.as_slice(), &rt),
+        Ok(words) => match verb(words.as_slice()) {
+            Verb::Plain => answer(words.as_slice(), &rt),
+            Verb::Jam => {
+                let mut sink = WriteSink::new(rt.stdout());
+                run_jam(&rt, words.as_slice(), &mut sink, &FreeGate, rt.alloc())
+                    .status
+                    .number()
+            }
+            Verb::Invite => call(words.as_slice(), &rt),
+        },
         Err(error) if error.kind() == ErrorKind::OutOfMemory => Status::NoMemory.number(),
         Err(_) => Status::Usage.number(),
     };
