@@ -1,15 +1,11 @@
 -- What was done first and what was done then is what was done.
-use Rattle.std.proofs.Common.{◌≡◌, ℕ, ◌+◌, ◌-◌, ◌^◌, ◌≤◌, min, Bool, true, false, cond, List, [], ◌∷◌, ◌++◌, take, Option, Some, None, refl, sym, ap, subst, ◌∙◌, append_assoc, length-append, arith}
-use Rattle.std.specs.Prelude.{IfSome}
-use Rattle.std.specs.Option.{option_map}
+use Rattle.std.proofs.Common.{◌≡◌, ℕ, ◌+◌, ◌≤◌, List, [], ◌∷◌, ◌++◌, Option, refl, sym, ap, subst, ◌∙◌, append_assoc, length-append, arith}
 use Rattle.std.proofs.lemmas.List.{append-nil}
 use Rattle.std.proofs.lemmas.List.Sums.{fold-append}
 use Rattle.jm_edge.specs.declared.Addr.{Addr}
 use Rattle.jm_edge.specs.Faults.{Rose}
-use Rattle.jm_edge.specs.Ticks.{later, Ticks}
-use Rattle.jm_edge.specs.Wire.{Letter, Wire, Receives, Sends}
-use Rattle.jm_edge.specs.declared.port.Recv.TheVariants as recv
-use Rattle.jm_edge.specs.declared.port.Sent.TheVariants as sent
+use Rattle.jm_edge.specs.Ticks.{Ticks}
+use Rattle.jm_edge.specs.Wire.{Letter, Wire}
 use Rattle.apple_session.specs.declared.answer.PortKind.{PortKind}
 use Rattle.apple_session.specs.declared.answer.PortKind.TheVariants.{Ctl, Rtp}
 use Rattle.apple_invite.specs.Caller.{Caller}
@@ -19,7 +15,8 @@ use Rattle.apple_invite.specs.declared.stage.Stage.TheVariants.{Fresh, AskCtl, A
 use Rattle.apple_invite.specs.Calls.{after_call, after}
 use Rattle.jm_edge.specs.Exchange.{letters_in, Exchanges}
 use Rattle.jm_edge.specs.ExchangeLaws.{letters_in-append, exchanges-then, exchanges_nothing}
-use Rattle.jm_edge.specs.MomentLaws.{gave-then}
+use Rattle.jm_edge.specs.MomentLaws.{gave-then, gave_one, gave_nothing}
+use Rattle.apple_call.specs.Exchange.{Breaks}
 use Rattle.apple_invite.specs.declared.dialed.Dialed.{Dialed}
 use Rattle.apple_call.specs.Turns.{letters_on, letters_of, clocks_by, clocks_of, message_of, hearing, Turn, first_calls, turn_calls, calls_of, moments_of, control_givens, data_givens, Posts, Goes, Does, Scene, Plays, MadeAll, ControlBroke, DataBroke}
 

@@ -1,10 +1,8 @@
 -- The turns of a call: each asks the clock once, tells the inviter, and receives once on each port, control first.
-use Rattle.std.specs.Prelude.{◌≡◌, ℕ, ◌+◌, ◌<◌, List, [], ◌∷◌, ◌++◌, length, Option, Some, None, IfSome}
-use Rattle.std.specs.Option.{option_map}
+use Rattle.std.specs.Prelude.{◌≡◌, ℕ, ◌+◌, ◌<◌, List, [], ◌∷◌, ◌++◌, length, Option, Some, None}
 use Rattle.std.specs.declared.result.Result.{Result}
 use Rattle.std.specs.declared.result.Result.TheVariants.{Ok, Err}
 use Rattle.jm_edge.specs.declared.Addr.{Addr}
-use Rattle.jm_edge.specs.Ticks.{later}
 use Rattle.jm_edge.specs.Wire.{Letter, Wire}
 use Rattle.apple_msg.specs.declared.message.Message.{Message}
 use Rattle.apple_msg.specs.declared.message.MsgFault.{MsgFault}
