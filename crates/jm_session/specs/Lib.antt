@@ -9,3 +9,4 @@ pub mod HonestLaws
 pub mod SameLogs
 pub mod Sending
 pub mod SendingLaws
+pub mod SomeSession

@@ -7,6 +7,7 @@ ghost use Rattle.jm_session.specs.Honest.{HonestParticipantsStayInStep};
 ghost use Rattle.jm_session.specs.InStep.{ReceiversStayInStep};
 ghost use Rattle.jm_session.specs.Premises.{SentStays, SessionsAreRepaired, SessionsMeetPremises};
 ghost use Rattle.jm_session.specs.Sending.{SessionsSendPackets};
+ghost use Rattle.jm_session.specs.SomeSession.{SomeSessionIsHonest};
 
 use jm_packet::laws::headers_read_back;
 use jm_receiver::laws::{
@@ -99,4 +100,13 @@ pub fn honest_participants_stay_in_step()
     ensures { HonestParticipantsStayInStep }
 {
     receivers_stay_in_step();
+}
+
+/// There is a session that meets what `honest_participants_stay_in_step` asks, and in which a packet with a note is lost: the
+/// participant's receiver takes the next packet alone, which has no commands, and has the note; its report is honest, and moves the
+/// checkpoint past the lost packet.
+pub fn some_session_is_honest()
+    ensures { SomeSessionIsHonest }
+{
+    honest_participants_stay_in_step();
 }
