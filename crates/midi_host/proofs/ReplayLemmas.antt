@@ -1,10 +1,10 @@
 -- What a session did with a line is what the script's state makes of it.
-use Rattle.std.proofs.Common.{◌≡◌, refl, ℕ, List, Result, Ok, Err}
+use Rattle.std.proofs.Common.{refl, ℕ, List, Result, Ok, Err}
 use Rattle.midi_host.specs.declared.conversation.LineOutcome.{LineOutcome}
 use Rattle.midi_host.specs.declared.conversation.LineOutcome.TheVariants.{Taken, Bad}
 use Rattle.midi_host.specs.Told.{Lined}
 use Rattle.midi_host.specs.Did.{Did}
-use Rattle.midi_host.specs.Replay.{Playing, State, within, in_session}
+use Rattle.midi_host.specs.Replay.{Playing, within, in_session}
 
 pub did-in_session : {E : Type 0} (result : Result LineOutcome E) (lined : Lined Playing) (next : Playing) (out out' : List ℕ)
     → Did result lined next out out' → Did result (in_session lined) (within next) out out'

@@ -1,5 +1,5 @@
 -- What the verb `repair` makes of a line: packets go to one receiver, whose state is shown.
-use Rattle.std.specs.Prelude.{ℕ, true, false, List, [], ◌∷◌, ◌++◌, length, Option, Some, None, Result, Ok, Err}
+use Rattle.std.specs.Prelude.{ℕ, false, List, [], ◌∷◌, ◌++◌, length, Option, Some, None, Result, Ok, Err}
 use Rattle.jm_packet.specs.declared.reading.PacketFault.{PacketFault}
 use Rattle.jm_packet.specs.Reading.{source_read}
 use Rattle.jm_state.specs.Parts.{no_state}
