@@ -4,4 +4,9 @@ pub mod Pump
 pub mod Rounds
 pub mod Messages
 pub mod Control
+pub mod Receivers
+pub mod Playing
+pub mod Listening
+pub mod Data
+pub mod ServedData
 pub mod ServedControl
