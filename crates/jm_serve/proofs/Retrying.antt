@@ -1,6 +1,6 @@
 -- Plays of commands, put together from single calls.
 use Rattle.std.proofs.Common.{◌≡◌, ℕ, suc, ◌+◌, ◌%◌, ◌≤◌, ◌<◌, Bool, true, false, List, [], ◌∷◌, ◌++◌, length, drop, get_or, Option, Some, None, Result, Ok, Err, refl, sym, ap, subst, ◌∙◌, append_assoc, arith}
-use Rattle.std.proofs.lemmas.List.{append-nil}
+use Rattle.std.proofs.lemmas.List.{append-nil, drop_all}
 use Rattle.std.proofs.Math.Seq.{drop-cons}
 use Rattle.std.specs.declared.alloc.AllocError.{AllocError}
 use Rattle.jm_edge.specs.Wire.{Letter, Wire}
@@ -99,13 +99,19 @@ silent desk acts old new gains calls wire faults =
     }
 
 module _ (desk : Shared) (player : ℕ) (command : Command) (moment : ℕ) where
-  pub ends_settled : (cuts : ℕ) (what : Tried) (pace pace' : Pace) (old new : Scene) → PlaysOnce desk player command moment what old.pass new.pass old.call new.call → needs_cut what ≡ false → pace' ≡ pace_tried what pace → new.wire ≡ old.wire → new.faults ≡ old.faults
-      → Ends desk player command moment cuts (course_of what) pace pace' old new
-  ends_settled cuts what pace pace' old new p not e wire faults = record {
+  last_as : (cuts : ℕ) (acts : List Act) (what : Tried) (come : Course) (pace pace' : Pace) → come ≡ course_of what → pace' ≡ pace_tried what pace
+      → Last (config_of desk) player command moment cuts pace acts [] (course_of what) (pace_tried what pace) → Last (config_of desk) player command moment cuts pace acts [] come pace'
+  last_as cuts acts what come pace pace' e f last =
+      subst (λ (k : Pace). Last (config_of desk) player command moment cuts pace acts [] come k) (sym f)
+      (subst (λ (k : Course). Last (config_of desk) player command moment cuts pace acts [] k (pace_tried what pace)) (sym e) last)
+
+  pub ends_settled : (cuts call' : ℕ) (what : Tried) (come : Course) (pace pace' : Pace) (old new : Scene) → PlaysOnce desk player command moment what old.pass new.pass old.call call' → needs_cut what ≡ false → come ≡ course_of what → pace' ≡ pace_tried what pace
+      → new.call ≡ call' → new.wire ≡ old.wire → new.faults ≡ old.faults → Ends desk player command moment cuts come pace pace' old new
+  ends_settled cuts call' what come pace pace' old new p not come_is e call wire faults = record {
     acts = p.acts;
     letters = [];
-    last = subst (λ (k : Pace). Last (config_of desk) player command moment cuts pace p.acts [] (course_of what) k) (sym e) (last_settled p.acts what p.once not);
-    works = silent desk p.acts old new p.gains p.calls wire faults;
+    last = last_as cuts p.acts what come pace pace' come_is e (last_settled p.acts what p.once not);
+    works = silent desk p.acts old new p.gains (call ∙ p.calls) wire faults;
   }
 
   last_any : (what : Tried) (pace : Pace) (acts : List Act) → Once player command moment acts what → Last (config_of desk) player command moment 34 pace acts [] (course_of what) (pace_tried what pace)
@@ -116,13 +122,13 @@ module _ (desk : Shared) (player : ℕ) (command : Command) (moment : ℕ) where
   last_any tried.RecordFull pace acts once = last_settled acts tried.RecordFull once refl
   last_any tried.NoMemory pace acts once = last_settled acts tried.NoMemory once refl
 
-  pub ends_last : (what : Tried) (pace pace' : Pace) (old new : Scene) → PlaysOnce desk player command moment what old.pass new.pass old.call new.call → pace' ≡ pace_tried what pace → new.wire ≡ old.wire → new.faults ≡ old.faults
-      → Ends desk player command moment 34 (course_of what) pace pace' old new
-  ends_last what pace pace' old new p e wire faults = record {
+  pub ends_last : (call' : ℕ) (what : Tried) (come : Course) (pace pace' : Pace) (old new : Scene) → PlaysOnce desk player command moment what old.pass new.pass old.call call' → come ≡ course_of what → pace' ≡ pace_tried what pace
+      → new.call ≡ call' → new.wire ≡ old.wire → new.faults ≡ old.faults → Ends desk player command moment 34 come pace pace' old new
+  ends_last call' what come pace pace' old new p come_is e call wire faults = record {
     acts = p.acts;
     letters = [];
-    last = subst (λ (k : Pace). Last (config_of desk) player command moment 34 pace p.acts [] (course_of what) k) (sym e) (last_any what pace p.acts p.once);
-    works = silent desk p.acts old new p.gains p.calls wire faults;
+    last = last_as 34 p.acts what come pace pace' come_is e (last_any what pace p.acts p.once);
+    works = silent desk p.acts old new p.gains (call ∙ p.calls) wire faults;
   }
 
   -- a play that needs a cut, and the cut
@@ -219,7 +225,7 @@ module _ (desk : Shared) (player moment : ℕ) where
     works = works-then first.works second.works;
   }
 
-  pub plays_all : (all : List Heard) (pace last : Pace) (a b : Scene) → PlaysOn desk player moment all [] pace last a b → PlaysList desk player all moment course.Next pace last a b
+  plays_all : (all : List Heard) (pace last : Pace) (a b : Scene) → PlaysOn desk player moment all [] pace last a b → PlaysList desk player all moment course.Next pace last a b
   plays_all all pace last a b first = record {
     acts = first.acts;
     letters = first.letters;
@@ -229,17 +235,21 @@ module _ (desk : Shared) (player moment : ℕ) where
     works = first.works;
   }
 
-  there : (all : List Heard) (i : ℕ) (d : Heard) → i < length all → drop i all ≡ get_or all i d ∷ drop (i + 1) all
-  there all i d inside =
+  there : (all : List Heard) (i : ℕ) (one : Heard) → i < length all → one ≡ get_or all i one → drop i all ≡ one ∷ drop (i + 1) all
+  there all i one inside is =
       let e : suc i ≡ i + 1 = omega arith in
-      drop-cons all i d inside ∙ ap (λ (k : ℕ). get_or all i d ∷ drop k all) e
+      drop-cons all i one inside ∙ ap (λ (k : ℕ). get_or all i one ∷ drop k all) e ∙ ap (λ (h : Heard). h ∷ drop (i + 1) all) (sym is)
 
-  pub plays_step : (all : List Heard) (i : ℕ) (d : Heard) (pace middle last : Pace) (a b c : Scene) → i < length all → PlaysOn desk player moment all (drop i all) pace middle a b → PlaysCommand desk player (get_or all i d).command moment course.Next middle last b c
+  pub plays_step : (all : List Heard) (i : ℕ) (one : Heard) (pace middle last : Pace) (a b c : Scene) → i < length all → one ≡ get_or all i one → PlaysOn desk player moment all (drop i all) pace middle a b → PlaysCommand desk player one.command moment course.Next middle last b c
       → PlaysOn desk player moment all (drop (i + 1) all) pace last a c
-  plays_step all i d pace middle last a b c inside first second =
-      plays_more all (drop (i + 1) all) (get_or all i d) pace middle last a b c (subst (λ (k : List Heard). PlaysOn desk player moment all k pace middle a b) (there all i d inside) first) second
+  plays_step all i one pace middle last a b c inside is first second =
+      plays_more all (drop (i + 1) all) one pace middle last a b c (subst (λ (k : List Heard). PlaysOn desk player moment all k pace middle a b) (there all i one inside is) first) second
 
-  pub plays_stop : (all : List Heard) (i : ℕ) (d : Heard) (come : Course) (pace middle last : Pace) (a b c : Scene) → i < length all → PlaysOn desk player moment all (drop i all) pace middle a b → is_next come ≡ false → PlaysCommand desk player (get_or all i d).command moment come middle last b c
+  pub plays_stop : (all : List Heard) (i : ℕ) (one : Heard) (come : Course) (pace middle last : Pace) (a b c : Scene) → i < length all → one ≡ get_or all i one → PlaysOn desk player moment all (drop i all) pace middle a b → is_next come ≡ false → PlaysCommand desk player one.command moment come middle last b c
       → PlaysList desk player all moment come pace last a c
-  plays_stop all i d come pace middle last a b c inside first off second =
-      plays_until all (drop (i + 1) all) (get_or all i d) come pace middle last a b c (subst (λ (k : List Heard). PlaysOn desk player moment all k pace middle a b) (there all i d inside) first) off second
+  plays_stop all i one come pace middle last a b c inside is first off second =
+      plays_until all (drop (i + 1) all) one come pace middle last a b c (subst (λ (k : List Heard). PlaysOn desk player moment all k pace middle a b) (there all i one inside is) first) off second
+
+  pub plays_done : (all : List Heard) (i : ℕ) (pace last : Pace) (a b : Scene) → length all ≤ i → PlaysOn desk player moment all (drop i all) pace last a b → PlaysList desk player all moment course.Next pace last a b
+  plays_done all i pace last a b past first =
+      plays_all all pace last a b (subst (λ (k : List Heard). PlaysOn desk player moment all k pace last a b) (drop_all i all past) first)
