@@ -4,3 +4,4 @@ pub mod Making
 pub mod Telling
 pub mod Retrying
 pub mod Hearing
+pub mod Taking

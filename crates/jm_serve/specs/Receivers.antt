@@ -64,3 +64,11 @@ pub data TakesPacket (octets : List ℕ) (slots : List Slot) : Result (Option Ca
 
 abbrev pub IsInside : Option Came → List Slot → Type 0
 IsInside came slots = IfSome came (λ c. c.place < length slots)
+
+-- ---- its parts
+
+-- the one that stands at this place takes the packet, or doesn't and is as it was
+pub data TakesWith (place : ℕ) (octets : List ℕ) (slot : Slot) : Result (Option Came) AllocError → Slot → Type 0 where
+  not_taken : (fault : AcceptFault) → accepted slot.receiver octets ≡ Err fault → TakesWith place octets slot (Ok None) slot
+  starved : (none : AllocError) → TakesWith place octets slot (Err none) slot
+  was_taken : (after : Received) (took : Took) → accepted slot.receiver octets ≡ Ok (after, took) → TakesWith place octets slot (Ok (Some (came_of place slot took))) (record slot { receiver = after })

@@ -1,7 +1,7 @@
 //! Whose packets are taken: the receivers of the joined participants.
 
-ghost use Rattle.std.specs.Prelude.{◌≡◌, ◌<◌, [], length, remove, IfOk, IfSome, OnErr};
-ghost use Rattle.jm_serve.specs.Receivers.{with_newcomer, place_for, IsInside, TakesAt, TakesPacket};
+ghost use Rattle.std.specs.Prelude.{◌≡◌, ◌<◌, [], length, position, remove, IfOk, IfSome, OnErr};
+ghost use Rattle.jm_serve.specs.Receivers.{is_of, with_newcomer, place_for, IsInside, TakesWith, TakesAt, TakesPacket};
 
 use jm_cmds::ReadError;
 use jm_packet::read_source;
@@ -28,6 +28,34 @@ pub struct Came {
     pub ssrc: u32,
     pub player: u8,
     pub took: Took,
+}
+
+// The place of the participant of this source.
+fn place_of(slots: &[Slot], ssrc: u32) -> Option<usize>
+    ensures place { result ≡ position (is_of ssrc) slots.now }
+    ensures inside { IfSome result (λ place. place < length slots.now) }
+{
+    slots.iter().position(|slot| slot.ssrc == ssrc)
+}
+
+// The packet is given to this participant's receiver, which stands at this place.
+fn take_with(
+    slot: &mut Slot,
+    place: usize,
+    octets: &[u8],
+) -> Result<Option<Came>, AllocError>
+    ensures { TakesWith place octets.now slot.old result slot.new }
+{
+    match slot.receiver.accept(octets) {
+        Err(ReadError::Memory) => Err(AllocError),
+        Err(ReadError::Fault(_fault)) => Ok(None),
+        Ok(took) => Ok(Some(Came {
+            place,
+            ssrc: slot.ssrc,
+            player: slot.player,
+            took,
+        })),
+    }
 }
 
 /// The participants whose packets are taken, in the order in which they joined. Contracts see it as their list.
@@ -62,7 +90,7 @@ impl Receivers {
     {
         match read_source(octets) {
             Err(_fault) => None,
-            Ok(source) => self.list.iter().position(|slot| slot.ssrc == source),
+            Ok(source) => place_of(self.list.as_slice(), source),
         }
     }
 
@@ -72,17 +100,7 @@ impl Receivers {
         ensures takes { TakesAt place octets.now self.old result self.new }
         ensures len { length self.new ≡ length self.old }
     {
-        let slot = &mut self.list[place];
-        match slot.receiver.accept(octets) {
-            Err(ReadError::Memory) => Err(AllocError),
-            Err(ReadError::Fault(_fault)) => Ok(None),
-            Ok(took) => Ok(Some(Came {
-                place,
-                ssrc: slot.ssrc,
-                player: slot.player,
-                took,
-            })),
-        }
+        take_with(&mut self.list[place], place, octets)
     }
 
     // The packet is given to the receiver of its stream. `None` where there is none, or where it takes nothing.
