@@ -159,7 +159,7 @@ fn hear_packet<R: Wait, P: Port, G: Gate>(
     ensures hears { HearsPacket desk.now came.now now result (pace_of sender.old) (pace_of sender.new)
         (scene_of pass.old (P.wire port.old) sender.old) (scene_of pass.new (P.wire port.new) sender.new) }
 {
-    let number = came.took.number as u16;
+    let number = (came.took.number % 65_536) as u16;
     match hear_once(rt, desk, pass, came.ssrc, number, gate, &mut sender.call) {
         Err(_none) => Course::NoMemory,
         Ok(answer) => match answer {
