@@ -27,7 +27,7 @@ use Rattle.jm_serve.specs.Acts.{Act, act, Scene, Works}
 use Rattle.jm_serve.specs.Pump.{Pumps}
 use Rattle.jm_serve.specs.Messages.{message_in, said_outcome, reply_letters, told_of, Tells}
 use Rattle.jm_serve.specs.Receivers.{TakesPacket}
-use Rattle.jm_serve.specs.Playing.{Pace, pace_of, pace_after, pumped_came, is_next, PlaysList}
+use Rattle.jm_serve.specs.Playing.{Pace, pace_of, scene_of, pace_after, pumped_came, is_next, PlaysList}
 use Rattle.jm_serve.specs.Listening.{Welcomes, heard_outcome, heard_course, Hears, unplayed, played, slots_after, came_by, Takes, nothing, no_room, taken, begins_as_message, Listens, quiet, message_came, passed_over, packet_came, HearsOnce, HearsPacket, TellsOnce, TakesOnce, ListensOnce}
 use Rattle.jm_serve.specs.Data.{pace_at, Sends, was_full, sent, DataRound, SendsWhatIsDue}
 use Rattle.jm_serve.specs.Data.{no_room as no_memory}
@@ -141,6 +141,17 @@ sends_due desk moment result came sender sender' old new p e = record {
 }
 
 module _ (desk : Shared) (given : Option Letter) (moment : ℕ) (listener : Listener) where
+  -- a round begins
+  pub listens_begun : (begun : Listener) (came : Rounded) (slots : List Slot) (pace : Pace) (pass : PassView) (wire : Wire) (new : Scene) → pace_of begun.sender ≡ pace_at moment listener → begun.receivers ≡ listener.receivers
+      → begun.sender.call ≡ listener.sender.call → begun.sender.send_faults ≡ listener.sender.send_faults
+      → ListensOnce desk given moment came begun.receivers slots (pace_of begun.sender) pace (scene_of pass wire begun.sender) new
+      → ListensOnce desk given moment came listener.receivers slots (pace_at moment listener) pace (scene_of pass wire listener.sender) new
+  listens_begun begun came slots pace pass wire new paced same call faults l =
+      subst (λ (k : ℕ). ListensOnce desk given moment came listener.receivers slots (pace_at moment listener) pace (record { pass = pass; wire = wire; call = listener.sender.call; faults = k }) new) faults
+      (subst (λ (k : ℕ). ListensOnce desk given moment came listener.receivers slots (pace_at moment listener) pace (record { pass = pass; wire = wire; call = k; faults = begun.sender.send_faults }) new) call
+      (subst (λ (k : List Slot). ListensOnce desk given moment came k slots (pace_at moment listener) pace (scene_of pass wire begun.sender) new) same
+      (subst (λ (k : Pace). ListensOnce desk given moment came begun.receivers slots k pace (scene_of pass wire begun.sender) new) paced l)))
+
   pub round_whole : (came : Rounded) (listener' : Listener) (pace : Pace) (slots : List Slot) (a b c : Scene) → ListensOnce desk given moment rounded.Whole listener.receivers slots (pace_at moment listener) pace a b
       → SendsWhatIsDue desk moment came pace (pace_of listener'.sender) b c → listener'.receivers ≡ slots → listener'.has_begun ≡ true
       → DoesRound (DataRound (config_of desk)) desk given moment came listener listener' a c
