@@ -282,7 +282,9 @@ fn play_command<R: Wait, P: Port, G: Gate>(
             None => {}
         }
     }
-    play_last(rt, desk, pass, port, player, command, now, gate, sender, alloc)
+    play_last(
+        rt, desk, pass, port, player, command, now, gate, sender, alloc,
+    )
 }
 
 // Plays what was heard of a packet, in order.

@@ -39,11 +39,7 @@ fn place_of(slots: &[Slot], ssrc: u32) -> Option<usize>
 }
 
 // The packet is given to this participant's receiver, which stands at this place.
-fn take_with(
-    slot: &mut Slot,
-    place: usize,
-    octets: &[u8],
-) -> Result<Option<Came>, AllocError>
+fn take_with(slot: &mut Slot, place: usize, octets: &[u8]) -> Result<Option<Came>, AllocError>
     ensures { TakesWith place octets.now slot.old result slot.new }
 {
     match slot.receiver.accept(octets) {
@@ -123,12 +119,7 @@ impl Receivers {
     }
 
     // A participant joined. Who had its number or its source before is gone.
-    pub(crate) fn welcome(
-        &mut self,
-        player: u8,
-        ssrc: u32,
-        alloc: Global,
-    ) -> Result<(), AllocError>
+    pub(crate) fn welcome(&mut self, player: u8, ssrc: u32, alloc: Global) -> Result<(), AllocError>
         ensures joined { IfOk result (λ _. self.new ≡ with_newcomer player ssrc self.old) }
         ensures unchanged { OnErr result (self.new ≡ self.old) }
     {
