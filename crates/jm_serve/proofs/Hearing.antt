@@ -1,7 +1,6 @@
 -- What comes of a datagram of the data port, and its worker's round, put together from their parts.
-use Rattle.std.proofs.Common.{◌≡◌, ℕ, ◌+◌, ◌%◌, Bool, true, false, List, [], ◌∷◌, ◌++◌, length, Option, Some, None, Result, Ok, Err, refl, sym, ap, subst, ◌∙◌}
+use Rattle.std.proofs.Common.{◌≡◌, ℕ, ◌+◌, ◌%◌, true, false, List, [], ◌∷◌, ◌++◌, Option, Some, None, Result, Ok, Err, refl, sym, subst}
 use Rattle.std.proofs.lemmas.List.{append-nil}
-use Rattle.std.specs.Prelude.{slice_get, slice_set, get_or, ◌<◌}
 use Rattle.std.specs.declared.alloc.AllocError.{AllocError}
 use Rattle.jm_edge.specs.declared.Addr.{Addr}
 use Rattle.jm_edge.specs.Wire.{Letter, Wire}
@@ -23,9 +22,9 @@ use Rattle.jm_serve.specs.declared.worked.Rounded.TheVariants as rounded
 use Rattle.jm_serve.specs.declared.message_calls.Told.{Told}
 use Rattle.jm_serve.specs.declared.playing.Course.{Course}
 use Rattle.jm_serve.specs.Exchange.{Posts}
-use Rattle.jm_serve.specs.Acts.{Act, act, Scene, Works}
+use Rattle.jm_serve.specs.Acts.{act, Scene, Works}
 use Rattle.jm_serve.specs.Pump.{Pumps}
-use Rattle.jm_serve.specs.Messages.{message_in, said_outcome, reply_letters, told_of, Tells}
+use Rattle.jm_serve.specs.Messages.{message_in, said_outcome, reply_letters, Tells}
 use Rattle.jm_serve.specs.Receivers.{TakesPacket}
 use Rattle.jm_serve.specs.Playing.{Pace, pace_of, scene_of, pace_after, pumped_came, is_next, PlaysList}
 use Rattle.jm_serve.specs.Listening.{Welcomes, heard_outcome, heard_course, Hears, unplayed, played, slots_after, came_by, Takes, nothing, no_room, taken, begins_as_message, Listens, quiet, message_came, passed_over, packet_came, HearsOnce, HearsPacket, TellsOnce, TakesOnce, ListensOnce}

@@ -1,11 +1,10 @@
 -- Plays of commands, put together from single calls.
-use Rattle.std.proofs.Common.{◌≡◌, ℕ, suc, ◌+◌, ◌%◌, ◌≤◌, ◌<◌, Bool, true, false, List, [], ◌∷◌, ◌++◌, length, drop, get_or, Option, Some, None, Result, Ok, Err, refl, sym, ap, subst, ◌∙◌, append_assoc, arith}
+use Rattle.std.proofs.Common.{◌≡◌, ℕ, suc, ◌+◌, ◌%◌, ◌≤◌, ◌<◌, Bool, true, false, List, [], ◌∷◌, ◌++◌, length, drop, get_or, Result, Ok, Err, refl, sym, ap, subst, ◌∙◌, append_assoc, arith}
 use Rattle.std.proofs.lemmas.List.{append-nil, drop_all}
 use Rattle.std.proofs.Math.Seq.{drop-cons}
 use Rattle.std.specs.declared.alloc.AllocError.{AllocError}
 use Rattle.jm_edge.specs.Wire.{Letter, Wire}
 use Rattle.jm_cmds.specs.declared.commands.Command.{Command}
-use Rattle.jm_book.specs.declared.steps.Config.{Config}
 use Rattle.jm_book.specs.declared.steps.Step.TheVariants as step
 use Rattle.jm_book.specs.declared.answers.Played.{Played}
 use Rattle.jm_desk.specs.declared.turn.Outcome.TheVariants as outcome
@@ -23,7 +22,7 @@ use Rattle.jm_serve.specs.declared.playing.Course.TheVariants as course
 use Rattle.jm_serve.specs.Exchange.{Posts}
 use Rattle.jm_serve.specs.Acts.{Act, act, next_call, Gains, Scene, Works}
 use Rattle.jm_serve.specs.Pump.{settled, Pumps}
-use Rattle.jm_serve.specs.Playing.{Pace, pace_of, pace_after, pumped_came, tried_of, Once, answered, no_room, no_copy, course_of, pace_tried, needs_cut, course_by, stops, Retries, none_yet, one_more, Last, given_up, stopped, Plays, is_next, PlaysEach, all_played, goes_on, stopped_at}
+use Rattle.jm_serve.specs.Playing.{Pace, pace_of, pace_after, pumped_came, tried_of, Once, answered, no_room, no_copy, course_of, pace_tried, needs_cut, course_by, stops, Retries, none_yet, one_more, Last, given_up, stopped, is_next, PlaysEach, all_played, goes_on, stopped_at}
 use Rattle.jm_serve.specs.Playing.{PlaysOnce, Retried, Ends, CutsAtOnce, RetriesSoFar, PlaysCommand, PlaysList}
 use Rattle.jm_serve.specs.Playing.{settled as last_settled}
 use Rattle.jm_serve.proofs.Joins.{posts_nothing, gains_nothing, gains_call, works-then, works_nothing}

@@ -1,17 +1,16 @@
 -- What comes of a packet among the receivers, put together from what comes of it at one.
-use Rattle.std.proofs.Common.{◌≡◌, ℕ, ◌<◌, List, length, get_or, Option, Some, None, Result, Ok, Err, refl, sym, ap, subst, ◌∙◌}
-use Rattle.std.specs.Prelude.{slice_get, slice_set}
+use Rattle.std.proofs.Common.{◌≡◌, ℕ, List, Option, None, Result, Ok, Err, sym, ap, subst, ◌∙◌}
+use Rattle.std.specs.Prelude.{slice_set}
 use Rattle.std.proofs.Math.ListN.{set}
 use Rattle.std.proofs.lemmas.List.{set-get_or}
 use Rattle.std.proofs.lemmas.Option.{get_or_from_slice_get}
 use Rattle.std.specs.declared.alloc.AllocError.{AllocError}
 use Rattle.jm_receiver.specs.declared.opening.AcceptFault.{AcceptFault}
-use Rattle.jm_receiver.specs.declared.receiver.Took.{Took}
 use Rattle.jm_receiver.specs.Receiver.{Received}
 use Rattle.jm_receiver.specs.Accept.{accepted}
 use Rattle.jm_serve.specs.declared.receivers.Slot.{Slot}
 use Rattle.jm_serve.specs.declared.receivers.Came.{Came}
-use Rattle.jm_serve.specs.Receivers.{came_of, StandsAt, TakesWith, not_taken, starved, was_taken, TakesAt, refuses, no_room, takes}
+use Rattle.jm_serve.specs.Receivers.{StandsAt, TakesWith, not_taken, starved, was_taken, TakesAt, refuses, no_room, takes}
 
 -- ---- at one
 

@@ -1,13 +1,11 @@
 -- What a round of the data port's worker does for one desk.
-use Rattle.std.specs.Prelude.{◌≡◌, ℕ, Bool, true, false, if◌then◌else◌, List, [], ◌∷◌, ◌++◌, Option}
+use Rattle.std.specs.Prelude.{◌≡◌, ℕ, Bool, true, false, if◌then◌else◌, List, [], ◌++◌}
 use Rattle.std.specs.declared.result.Result.{Result}
 use Rattle.std.specs.declared.alloc.AllocError.{AllocError}
-use Rattle.jm_edge.specs.Wire.{Letter, Wire}
+use Rattle.jm_edge.specs.Wire.{Letter}
 use Rattle.jm_book.specs.declared.steps.Config.{Config}
-use Rattle.jm_desk.specs.Sharing.{Shared, PassView, config_of}
-use Rattle.jm_serve.specs.declared.receivers.Slot.{Slot}
+use Rattle.jm_desk.specs.Sharing.{Shared, config_of}
 use Rattle.jm_serve.specs.declared.listener.Listener.{Listener}
-use Rattle.jm_serve.specs.declared.sender.Sender.{Sender}
 use Rattle.jm_serve.specs.declared.sender.Pumped.{Pumped}
 use Rattle.jm_serve.specs.declared.worked.Rounded.{Rounded}
 use Rattle.jm_serve.specs.declared.worked.Rounded.TheVariants as rounded

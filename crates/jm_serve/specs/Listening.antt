@@ -1,10 +1,10 @@
 -- What is done for one session with a datagram of the data port.
-use Rattle.std.specs.Prelude.{◌≡◌, ℕ, ◌+◌, ◌%◌, Bool, true, false, ◌&&◌, ◌==◌, List, [], ◌∷◌, ◌++◌, remove, Option, Some, None}
+use Rattle.std.specs.Prelude.{◌≡◌, ℕ, ◌+◌, ◌%◌, Bool, true, false, ◌&&◌, ◌==◌, List, [], ◌∷◌, remove, Option, Some, None}
 use Rattle.std.specs.declared.result.Result.{Result}
 use Rattle.std.specs.declared.result.Result.TheVariants.{Ok, Err}
 use Rattle.std.specs.declared.alloc.AllocError.{AllocError}
 use Rattle.jm_edge.specs.declared.Addr.{Addr}
-use Rattle.jm_edge.specs.Wire.{Letter, Wire}
+use Rattle.jm_edge.specs.Wire.{Letter}
 use Rattle.apple_msg.specs.declared.message.Message.{Message}
 use Rattle.apple_msg.specs.declared.message.Message.TheVariants as message
 use Rattle.apple_session.specs.declared.answer.PortKind.TheVariants.{Rtp}

@@ -1,5 +1,5 @@
 -- What the data port's worker did.
-use Rattle.std.specs.Prelude.{ℕ, false, [], None, Option}
+use Rattle.std.specs.Prelude.{ℕ, false, [], Option}
 use Rattle.jm_edge.specs.Wire.{Wire}
 use Rattle.jm_desk.specs.Sharing.{Shared, PassView, config_of}
 use Rattle.jm_serve.specs.declared.worked.Worked.{Worked}

@@ -1,4 +1,4 @@
-use Rattle.std.proofs.Common.{Option, refl, sym, ap, ◌∙◌}
+use Rattle.std.proofs.Common.{Option, sym, ap, ◌∙◌}
 use Rattle.jm_edge.specs.declared.Addr.{Addr}
 use Rattle.jm_edge.specs.Wire.{Letter}
 use Rattle.jm_serve.specs.Messages.{message_in}

@@ -1,4 +1,3 @@
-use Rattle.jm_serve.specs.Playing.{scene_of}
 use Rattle.jm_serve.proofs.Retrying.{cuts_at_once}
 use Rattle.jm_serve.proofs.playing.cut_at_once.Goals as goal
 

@@ -1,4 +1,3 @@
-use Rattle.std.proofs.Common.{refl}
 use Rattle.jm_serve.specs.Receivers.{was_taken}
 use Rattle.jm_serve.proofs.Taking.{with_fault, with_no_memory}
 use Rattle.jm_serve.proofs.receivers.take_with.Goals as goal

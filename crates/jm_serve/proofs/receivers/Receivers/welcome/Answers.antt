@@ -3,7 +3,7 @@ use Rattle.std.specs.Prelude.{filter}
 use Rattle.std.proofs.lemmas.Fn.{filter_same}
 use Rattle.jm_receiver.specs.Receiver.{Received}
 use Rattle.jm_serve.specs.declared.receivers.Slot.{Slot}
-use Rattle.jm_serve.specs.Receivers.{newcomer, is_other}
+use Rattle.jm_serve.specs.Receivers.{is_other}
 use Rattle.jm_serve.proofs.receivers.Receivers.welcome.Goals as goal
 
 pub returns-clause-joined : goal.returns-clause-joined
