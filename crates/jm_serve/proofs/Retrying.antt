@@ -23,7 +23,7 @@ use Rattle.jm_serve.specs.Exchange.{Posts}
 use Rattle.jm_serve.specs.Acts.{Act, act, next_call, Gains, Scene, Works}
 use Rattle.jm_serve.specs.Pump.{settled, Pumps}
 use Rattle.jm_serve.specs.Playing.{Pace, pace_of, pace_after, pumped_came, tried_of, Once, answered, no_room, no_copy, course_of, pace_tried, needs_cut, course_by, stops, Retries, none_yet, one_more, Last, given_up, stopped, is_next, PlaysEach, all_played, goes_on, stopped_at}
-use Rattle.jm_serve.specs.Playing.{PlaysOnce, Retried, Ends, CutsAtOnce, RetriesSoFar, PlaysCommand, PlaysList}
+use Rattle.jm_serve.specs.Playing.{PlaysOnce, Retried, PlaysLast, CutsAtOnce, RetriesSoFar, PlaysCommand, PlaysList}
 use Rattle.jm_serve.specs.Playing.{settled as last_settled}
 use Rattle.jm_serve.proofs.Joins.{posts_nothing, gains_nothing, gains_call, works-then, works_nothing}
 
@@ -105,7 +105,7 @@ module _ (desk : Shared) (player : ℕ) (command : Command) (moment : ℕ) where
       (subst (λ (k : Course). Last (config_of desk) player command moment cuts pace acts [] k (pace_tried what pace)) (sym e) last)
 
   pub ends_settled : (cuts call' : ℕ) (what : Tried) (come : Course) (pace pace' : Pace) (old new : Scene) → PlaysOnce desk player command moment what old.pass new.pass old.call call' → needs_cut what ≡ false → come ≡ course_of what → pace' ≡ pace_tried what pace
-      → new.call ≡ call' → new.wire ≡ old.wire → new.faults ≡ old.faults → Ends desk player command moment cuts come pace pace' old new
+      → new.call ≡ call' → new.wire ≡ old.wire → new.faults ≡ old.faults → PlaysLast desk player command moment cuts come pace pace' old new
   ends_settled cuts call' what come pace pace' old new p not come_is e call wire faults = record {
     acts = p.acts;
     letters = [];
@@ -122,7 +122,7 @@ module _ (desk : Shared) (player : ℕ) (command : Command) (moment : ℕ) where
   last_any tried.NoMemory pace acts once = last_settled acts tried.NoMemory once refl
 
   pub ends_last : (call' : ℕ) (what : Tried) (come : Course) (pace pace' : Pace) (old new : Scene) → PlaysOnce desk player command moment what old.pass new.pass old.call call' → come ≡ course_of what → pace' ≡ pace_tried what pace
-      → new.call ≡ call' → new.wire ≡ old.wire → new.faults ≡ old.faults → Ends desk player command moment 34 come pace pace' old new
+      → new.call ≡ call' → new.wire ≡ old.wire → new.faults ≡ old.faults → PlaysLast desk player command moment 34 come pace pace' old new
   ends_last call' what come pace pace' old new p come_is e call wire faults = record {
     acts = p.acts;
     letters = [];
@@ -145,7 +145,7 @@ module _ (desk : Shared) (player : ℕ) (command : Command) (moment : ℕ) where
       works = works-then (silent desk once.acts old middle once.gains once.calls wire faults) cut.works;
     }
 
-    pub ends_stopped : (cuts : ℕ) → cuts < 34 → stops came ≡ true → Ends desk player command moment cuts (course_by came) pace pace' old new
+    pub ends_stopped : (cuts : ℕ) → cuts < 34 → stops came ≡ true → PlaysLast desk player command moment cuts (course_by came) pace pace' old new
     ends_stopped cuts few on =
         let last : Last (config_of desk) player command moment cuts pace (once.acts ++ cut.acts) cut.letters (course_by (pumped_came cut.result)) (pace_after moment cut.result pace) =
         stopped once.acts cut.acts cut.letters cut.result once.once few cut.cuts (ap stops cut.came_is ∙ on) in
@@ -171,7 +171,7 @@ module _ (desk : Shared) (player : ℕ) (command : Command) (moment : ℕ) where
     works = works-then first.works second.works;
   }
 
-  pub plays_ended : (cuts : ℕ) (come : Course) (pace middle last : Pace) (a b c : Scene) → cuts ≤ 34 → RetriesSoFar desk player command moment cuts pace middle a b → Ends desk player command moment cuts come middle last b c → PlaysCommand desk player command moment come pace last a c
+  pub plays_ended : (cuts : ℕ) (come : Course) (pace middle last : Pace) (a b c : Scene) → cuts ≤ 34 → RetriesSoFar desk player command moment cuts pace middle a b → PlaysLast desk player command moment cuts come middle last b c → PlaysCommand desk player command moment come pace last a c
   plays_ended cuts come pace middle last a b c few first second = record {
     acts = first.acts ++ second.acts;
     letters = first.letters ++ second.letters;

@@ -176,7 +176,7 @@ pub record PlaysOnce (desk : Shared) (player : ℕ) (command : Command) (moment 
   pub gains : Gains desk acts old new
   pub calls : call' ≡ next_call call acts
 
--- One play, and a cut where it needs one. Nothing more to do but one cut; or the last of the command.
+-- a play that needs a cut, and the cut
 pub record Retried (desk : Shared) (player : ℕ) (command : Command) (moment : ℕ) (pace pace' : Pace) (old new : Scene) : Type 0 where
   pub play : List Act
   pub sends : List Act
@@ -188,7 +188,8 @@ pub record Retried (desk : Shared) (player : ℕ) (command : Command) (moment : 
   pub paced : pace' ≡ pace_after moment result pace
   pub works : Works desk (play ++ sends) [] packets old new
 
-pub record Ends (desk : Shared) (player : ℕ) (command : Command) (moment cuts : ℕ) (come : Course) (pace pace' : Pace) (old new : Scene) : Type 0 where
+-- the last that is done for a command, behind so many cuts
+pub record PlaysLast (desk : Shared) (player : ℕ) (command : Command) (moment cuts : ℕ) (come : Course) (pace pace' : Pace) (old new : Scene) : Type 0 where
   pub acts : List Act
   pub letters : List Letter
   pub last : Last (config_of desk) player command moment cuts pace acts letters come pace'
@@ -196,7 +197,7 @@ pub record Ends (desk : Shared) (player : ℕ) (command : Command) (moment cuts 
 
 abbrev pub Tries : Shared → (player : ℕ) → Command → (moment : ℕ) → Option Course → (pace pace' : Pace) → (old new : Scene) → Type 0
 Tries desk player command moment None pace pace' old new = Retried desk player command moment pace pace' old new
-Tries desk player command moment (Some come) pace pace' old new = (cuts : ℕ) → cuts < 34 → Ends desk player command moment cuts come pace pace' old new
+Tries desk player command moment (Some come) pace pace' old new = (cuts : ℕ) → cuts < 34 → PlaysLast desk player command moment cuts come pace pace' old new
 
 -- a cut at once
 pub record CutsAtOnce (desk : Shared) (moment : ℕ) (came : Rounded) (pace pace' : Pace) (old new : Scene) : Type 0 where

@@ -3,7 +3,7 @@
 ghost use Rattle.std.specs.Prelude.{◌≡◌, ◌≤◌, ◌+◌, length};
 ghost use Rattle.jm_desk.specs.Sharing.{IsOf};
 ghost use Rattle.jm_serve.specs.Acts.{GoesOn};
-ghost use Rattle.jm_serve.specs.Playing.{tried_of, needs_cut, course_of, pace_tried, pace_of, scene_of, pumped_came, PlaysOnce, Ends, CutsAtOnce, Tries, PlaysCommand, PlaysList};
+ghost use Rattle.jm_serve.specs.Playing.{tried_of, needs_cut, course_of, pace_tried, pace_of, scene_of, pumped_came, PlaysOnce, PlaysLast, CutsAtOnce, Tries, PlaysCommand, PlaysList};
 
 use crate::pumping::pump;
 use crate::sender::{DATA_WORKER, Pumped, Sender};
@@ -234,7 +234,7 @@ fn play_last<R: Wait, P: Port, G: Gate>(
     requires own { IsOf desk.now pass.old }
     ensures own { IsOf desk.now pass.new }
     ensures rest { GoesOn pass.old pass.new }
-    ensures ends { Ends desk.now player command.now now 34 result (pace_of sender.old) (pace_of sender.new)
+    ensures ends { PlaysLast desk.now player command.now now 34 result (pace_of sender.old) (pace_of sender.new)
         (scene_of pass.old (P.wire port.old) sender.old) (scene_of pass.new (P.wire port.new) sender.new) }
 {
     let what = play_once(

@@ -1,6 +1,6 @@
 use Rattle.std.proofs.Common.{◌≡◌, ℕ, refl, subst, arith}
 use Rattle.jm_serve.specs.Acts.{Scene}
-use Rattle.jm_serve.specs.Playing.{pace_of, scene_of, Ends}
+use Rattle.jm_serve.specs.Playing.{pace_of, scene_of, PlaysLast}
 use Rattle.jm_serve.proofs.Joins.{goes_on-then}
 use Rattle.jm_serve.proofs.Retrying.{retries_none, retries_more, plays_ended}
 use Rattle.jm_serve.proofs.playing.play_command.Goals as goal
@@ -42,4 +42,4 @@ returns-clause-plays g c =
     let all : 34 ≡ c.loop-cut._cut = omega (arith, c.loop-cut-test.false, c.loop-cut.auto._cut-end) in
     plays_ended c.args.desk.now c.args.player c.args.command.now c.args.now c.loop-cut._cut c.play_last.result (pace_of c.args.sender.now) (pace_of c.loop-cut.sender) (pace_of c.play_last.new.sender) start middle now
     (omega (arith, c.loop-cut.auto._cut-end)) c.loop-cut.invariant.retried
-    (subst (λ (k : ℕ). Ends c.args.desk.now c.args.player c.args.command.now c.args.now k c.play_last.result (pace_of c.loop-cut.sender) (pace_of c.play_last.new.sender) middle now) all c.play_last.ensures.ends)
+    (subst (λ (k : ℕ). PlaysLast c.args.desk.now c.args.player c.args.command.now c.args.now k c.play_last.result (pace_of c.loop-cut.sender) (pace_of c.play_last.new.sender) middle now) all c.play_last.ensures.ends)
