@@ -5,4 +5,5 @@ mod Making
 mod OpeningTurns
 mod Passes
 mod Plays
+mod Refusals
 mod Sounding

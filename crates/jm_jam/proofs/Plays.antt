@@ -1,8 +1,7 @@
 -- What the turns of a jam come to on its tape.
-use Rattle.std.proofs.Common.{◌≡◌, ◌≢◌, ℕ, zero, suc, ◌+◌, ◌<◌, Bool, true, false, ◌==◌, ◌||◌, if◌then◌else◌, List, [], ◌∷◌, ◌++◌, refl, sym, ap, subst, ◌∙◌, inl, inr, arith, append_assoc, eq-eqb}
+use Rattle.std.proofs.Common.{◌≡◌, ◌≢◌, ℕ, zero, suc, ◌+◌, ◌<◌, Bool, true, false, ◌==◌, if◌then◌else◌, List, [], ◌∷◌, ◌++◌, refl, sym, ap, subst, ◌∙◌, inl, inr, arith, append_assoc, eq-eqb}
 use Rattle.std.proofs.lemmas.Bool.{cases_Bool}
 use Rattle.std.proofs.lemmas.Bool.Decides.{nat_tests}
-use Rattle.std.proofs.lemmas.List.{append-nil}
 use Rattle.jm_cmds.specs.declared.commands.Command.{Command}
 use Rattle.jm_turn.specs.declared.view.Made.{Made}
 use Rattle.jm_turn.specs.Turns.{Everyone}
@@ -10,7 +9,10 @@ use Rattle.jm_book.specs.declared.steps.Step.{Step}
 use Rattle.jm_book.specs.declared.steps.Step.TheVariants as step
 use Rattle.jm_book.specs.declared.answers.Played.{Played}
 use Rattle.jm_book.specs.declared.answers.Played.TheVariants as played
+use Rattle.jm_book.specs.declared.answers.PlayFault.{PlayFault}
+use Rattle.jm_book.specs.declared.answers.PlayFault.TheVariants as refusal
 use Rattle.jm_book.specs.declared.answers.Cutted.{Cutted}
+use Rattle.jm_book.specs.declared.answers.Cutted.TheVariants as cutted
 use Rattle.jm_book.specs.declared.answers.Acked.{Acked}
 use Rattle.jm_book.specs.declared.answers.Entered.{Entered}
 use Rattle.jm_book.specs.Answers.{is_accepted, is_packet}
@@ -20,10 +22,11 @@ use Rattle.jm_desk.specs.declared.turn.Outcome.TheVariants as outcome
 use Rattle.jm_desk.specs.History.{is_taken, step_of, taken}
 use Rattle.jm_desk.specs.OwnTurns.{turns_by}
 use Rattle.jm_jam.specs.Made.{made, start_of, tick_at}
-use Rattle.jm_jam.specs.Workers.{play_turn, cut_turn, needs_cut, PlaysStep, PlaysSteps, next_report, report_turns, Reports, cut_turns, Cuts}
+use Rattle.jm_jam.specs.Workers.{play_turn, cut_turn, is_needs_cut, needs_cut, PlaysStep, PlaysSteps, next_report, report_turns, Reports, cut_turns, Cuts}
 use Rattle.jm_jam.specs.Workers.{settled, not_cut, cut_first}
 use Rattle.jm_jam.specs.Whole.{enter_turns, IsJam}
-use Rattle.jm_jam.specs.Plays.{is_played, PlaysGive, AllTurns}
+use Rattle.jm_jam.specs.Plays.{is_barring, is_left_out, PlaysGive, AllTurns}
+use Rattle.jm_jam.proofs.Refusals.{made_fits, is_foreseen, AllForeseen, foreseen-apart, turns_foreseen}
 
 -- ---- plays of a list of steps
 
@@ -199,31 +202,61 @@ refused : (answer : Played) → needs_cut answer ≡ true → is_accepted answer
 refused (played.Accepted serial kept) h = absurd cc
 refused (played.Refused why command) h = refl
 
-or_false : (b : Bool) → (b || false) ≡ b
-or_false true = refl
-or_false false = refl
+-- an answer that ends a step otherwise than by a cut is that the tape is full
+settled_as : (why : PlayFault) (command : Command) → needs_cut (played.Refused why command) ≡ false → is_foreseen (played.Refused why command) ≡ true → is_barring (outcome.Played (played.Refused why command)) ≡ true
+settled_as (refusal.RecordFull events) command done seen = refl
+settled_as (refusal.NeedsCut pending octets delta) command done seen = absurd cc
+settled_as (refusal.UnknownPlayer) command done seen = absurd cc
+settled_as (refusal.ParamsFull channel kept) command done seen = absurd cc
+settled_as (refusal.PolyFull channel kept) command done seen = absurd cc
+settled_as (refusal.SysexFull logs octets) command done seen = absurd cc
+
+barring_cut : (cut : Cutted) → is_packet cut ≡ false → is_barring (outcome.Cut cut) ≡ true
+barring_cut (cutted.Packet number) none = absurd cc
+barring_cut (cutted.RecordFull events) none = refl
+barring_cut (cutted.Behind ssrc mark) none = refl
+
+other_cut : (cut : Cutted) → is_packet cut ≡ true → is_barring (outcome.Cut cut) ≡ false
+other_cut (cutted.Packet number) packet = refl
+other_cut (cutted.RecordFull events) packet = absurd cc
+other_cut (cutted.Behind ssrc mark) packet = absurd cc
+
+fault_needs : (why : PlayFault) (command : Command) → is_needs_cut why ≡ true → is_barring (outcome.Played (played.Refused why command)) ≡ false
+fault_needs (refusal.NeedsCut pending octets delta) command needs = refl
+fault_needs (refusal.RecordFull events) command needs = absurd cc
+fault_needs refusal.UnknownPlayer command needs = absurd cc
+fault_needs (refusal.ParamsFull channel kept) command needs = absurd cc
+fault_needs (refusal.PolyFull channel kept) command needs = absurd cc
+fault_needs (refusal.SysexFull logs octets) command needs = absurd cc
+
+other_play : (answer : Played) → needs_cut answer ≡ true → is_barring (outcome.Played answer) ≡ false
+other_play (played.Accepted serial kept) needs = refl
+other_play (played.Refused why command) needs = fault_needs why command needs
 
 -- of one step
-step_plays : (player : ℕ) (command : Command) (tick : ℕ) (turns : List DeskTurn) → PlaysStep player command tick turns → plays_in player turns ≡ (if is_played turns then command ∷ [] else [])
-step_plays player command tick turns (settled answer done) =
-    rw (or_false (is_accepted answer), own_play player command tick (is_accepted answer)) (append-nil (if is_accepted answer then command ∷ [] else []))
-step_plays player command tick turns (not_cut answer cut needs none) =
-    rw (own_play player command tick (is_accepted answer), refused answer needs, own_cut player tick (is_packet cut)) refl
-step_plays player command tick turns (cut_first answer cut more needs packet plays) =
-    rw (own_play player command tick (is_accepted answer), refused answer needs, own_cut player tick (is_packet cut)) (step_plays player command tick more plays)
+step_plays : (player start step tick : ℕ) (turns : List DeskTurn) → player < 4 → AllForeseen turns → PlaysStep player (made player start step) tick turns → plays_in player turns ≡ (if is_left_out turns then [] else made player start step ∷ [])
+step_plays player start step tick turns few seen (settled (played.Accepted serial kept) done) = rw (eq-eqb player player refl) refl
+step_plays player start step tick turns few seen (settled (played.Refused why command) done) =
+    rw (settled_as why command done (seen.0 player tick (made player start step) (played.Refused why command) refl (made_fits player start step) few)) refl
+step_plays player start step tick turns few seen (not_cut answer cut needs none) =
+    rw (own_play player (made player start step) tick (is_accepted answer), refused answer needs, own_cut player tick (is_packet cut), other_play answer needs, barring_cut cut none) refl
+step_plays player start step tick turns few seen (cut_first answer cut more needs packet plays) =
+    rw (own_play player (made player start step) tick (is_accepted answer), refused answer needs, own_cut player tick (is_packet cut), other_play answer needs, other_cut cut packet)
+    (step_plays player start step tick more few seen.1.1 plays)
 
 -- of all
-steps_give : (player start steps : ℕ) (turns : List DeskTurn) → PlaysSteps player start steps turns → PlaysGive player start steps turns (plays_in player turns)
-steps_give player start zero turns h = (h, ap (plays_in player) h)
-steps_give player start (suc step) turns (before, now, e, did, plays) = (
-  before,
-  now,
-  plays_in player before,
-  e,
-  steps_give player start step before did,
-  plays,
-  ap (plays_in player) e ∙ (plays_in-append player before now ∙ ap (λ (l : List Command). plays_in player before ++ l) (step_plays player (made player start step) (tick_at step) now plays)),
-)
+steps_give : (player start steps : ℕ) (turns : List DeskTurn) → player < 4 → AllForeseen turns → PlaysSteps player start steps turns → PlaysGive player start steps turns (plays_in player turns)
+steps_give player start zero turns few seen h = (h, ap (plays_in player) h)
+steps_give player start (suc step) turns few seen (before, now, e, did, plays) =
+    let apart = foreseen-apart before now (subst (λ (l : List DeskTurn). AllForeseen l) e seen) in (
+      before,
+      now,
+      plays_in player before,
+      e,
+      steps_give player start step before few apart.0 did,
+      plays,
+      ap (plays_in player) e ∙ (plays_in-append player before now ∙ ap (λ (l : List Command). plays_in player before ++ l) (step_plays player start step (tick_at step) now few apart.1 plays)),
+    )
 
 pub tape_has : (seed count : ℕ) (turns : List (Made DeskTurn)) → IsJam seed count turns → (player : ℕ) → player < 4 → PlaysGive player (start_of seed player) count (turns_by (player + 1) turns) (played_by player (taken turns))
 tape_has seed count turns jam player few =
@@ -234,8 +267,8 @@ tape_has seed count turns jam player few =
     gives p less =
         let w = jam.workers in
         below4 (λ (p : ℕ). PlaysGive p (start_of seed p) count (turns_by (p + 1) turns) (plays_in p (turns_by (p + 1) turns)))
-        (steps_give 0 (start_of seed 0) count (turns_by 1 turns) w.0)
-        (steps_give 1 (start_of seed 1) count (turns_by 2 turns) w.1.0)
-        (steps_give 2 (start_of seed 2) count (turns_by 3 turns) w.1.1.0)
-        (steps_give 3 (start_of seed 3) count (turns_by 4 turns) w.1.1.1.0)
+        (steps_give 0 (start_of seed 0) count (turns_by 1 turns) (omega arith) (turns_foreseen seed count turns jam 1) w.0)
+        (steps_give 1 (start_of seed 1) count (turns_by 2 turns) (omega arith) (turns_foreseen seed count turns jam 2) w.1.0)
+        (steps_give 2 (start_of seed 2) count (turns_by 3 turns) (omega arith) (turns_foreseen seed count turns jam 3) w.1.1.0)
+        (steps_give 3 (start_of seed 3) count (turns_by 4 turns) (omega arith) (turns_foreseen seed count turns jam 4) w.1.1.1.0)
         p less

@@ -10,8 +10,8 @@ use Rattle.jm_jam.specs.Made.{start_of}
 use Rattle.jm_jam.specs.Whole.{IsJam}
 use Rattle.jm_jam.specs.Plays.{PlaysGive, AllTurns}
 
--- The commands of each player on the tape are those that are made for its steps, in their order, but for the steps in which no play was
--- accepted.
+-- The commands of each player on the tape are those that are made for its steps, in their order, but for the steps in which a play or a
+-- cut was answered that the tape is full, or a cut that a participant is too far behind.
 abbrev pub TapeHasWhatIsMade : Type 0
 TapeHasWhatIsMade =
     (seed count : ℕ) (turns : List (Made DeskTurn)) → IsJam seed count turns → (player : ℕ) → player < 4 → PlaysGive player (start_of seed player) count (turns_by (player + 1) turns) (played_by player (taken turns))

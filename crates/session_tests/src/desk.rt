@@ -1,4 +1,4 @@
-// What no clause says: that the calls come to an end, and a worked session.
+// What no clause says: that the calls come to an end, with two threads as with one, and a worked session.
 ghost use Rattle.std.specs.Prelude.{◌≡◌, ◌≤◌, [], IfOk};
 ghost use Rattle.jm_desk.specs.Sharing.{IsOf};
 
@@ -6,7 +6,7 @@ use apple_msg::{Message, Name};
 use apple_session::{PortKind, Why};
 use jm_book::{
     Acked, Acted, AddrList, Book, Config, Cutted, Entered, FeedbackList, Given, Gone, Heard,
-    Joined, Played, Said,
+    Joined, Played, Said, Step,
 };
 use jm_cmds::{Channel, Command, D7};
 use jm_desk::*;
@@ -15,6 +15,8 @@ use jm_wire::Octets;
 use std::alloc::Global;
 use std::sync::Wait;
 use std::test::*;
+use std::thread;
+use std::thread::Threads;
 
 // A call.
 #[derive(Clone, Copy)]
@@ -237,5 +239,120 @@ fn a_session_by_two_passes(rt: HostRuntime) -> Result<(), Fail> {
     assert_eq!(rt; desk.front(&mut other), 9);
     opening.join(&desk, other);
     assert_eq!(rt; desk.close(opening).len(), 7);
+    Ok(())
+}
+
+// How many notes each of two threads plays. No cut is needed for them all.
+const EACH: u8 = 100;
+
+fn struck(player: u8, note: u8) -> Command {
+    Command::NoteOn {
+        channel: Channel::low(player),
+        note: D7::low(note),
+        velocity: D7::low(1),
+    }
+}
+
+// Whether a note was accepted.
+fn strike<R: Wait>(rt: &R, desk: &Desk, pass: &mut Pass, player: u8, note: u8) -> bool
+    requires { IsOf desk.now pass.old }
+    ensures own { IsOf desk.now pass.new }
+    ensures same { (pass.new.view.kind ≡ pass.old.view.kind) × (pass.new.view.out ≡ pass.old.view.out) }
+{
+    match desk.play(rt, pass, player, struck(player, note), 0) {
+        Err(_) => false,
+        Ok(turn) => match turn.answer {
+            Played::Accepted { .. } => true,
+            Played::Refused { .. } => false,
+        },
+    }
+}
+
+// The number of a player that enters.
+fn enter<R: Wait>(rt: &R, desk: &Desk, pass: &mut Pass) -> Option<u8>
+    requires { IsOf desk.now pass.old }
+    ensures own { IsOf desk.now pass.new }
+    ensures same { (pass.new.view.kind ≡ pass.old.view.kind) × (pass.new.view.out ≡ pass.old.view.out) }
+{
+    match desk.enter(rt, pass) {
+        Err(_) => None,
+        Ok(turn) => match turn.answer {
+            Entered::Player(player) => Some(player),
+            _ => None,
+        },
+    }
+}
+
+// A player enters and plays its notes. It says whether each was accepted.
+fn play_notes<R: Wait>(rt: &R, desk: &Desk, mut pass: Pass) -> (Pass, bool)
+    requires { IsOf desk.now pass }
+    ensures own { IsOf desk.now result.0 }
+    ensures same { (result.0.view.kind ≡ pass.view.kind) × (result.0.view.out ≡ pass.view.out) }
+{
+    let Some(player) = enter(rt, desk, &mut pass) else {
+        return (pass, false);
+    };
+    let mut good = true;
+    for note in 0..EACH {
+        good = strike(rt, desk, &mut pass, player, note) && good;
+    }
+    (pass, good)
+}
+
+// Two threads, each with a pass.
+fn two<R: Threads + Wait + Sync>(
+    rt: &R,
+    desk: &Desk,
+    one: Pass,
+    other: Pass,
+) -> ((Pass, bool), (Pass, bool))
+    requires { IsOf desk.now one × IsOf desk.now other }
+    ensures own { IsOf desk.now result.0.0 × IsOf desk.now result.1.0 }
+    ensures first { (result.0.0.view.kind ≡ one.view.kind) × (result.0.0.view.out ≡ one.view.out) }
+    ensures second { (result.1.0.view.kind ≡ other.view.kind) × (result.1.0.view.out ≡ other.view.out) }
+{
+    thread::join(
+        rt,
+        move || -> (Pass, bool)
+            requires { IsOf desk.now one }
+            ensures { IsOf desk.entry.now result.0 × (result.0.view.kind ≡ one.view.kind) × (result.0.view.out ≡ one.view.out) }
+        { play_notes(rt, desk, one) },
+        move || -> (Pass, bool)
+            requires { IsOf desk.now other }
+            ensures { IsOf desk.entry.now result.0 × (result.0.view.kind ≡ other.view.kind) × (result.0.view.out ≡ other.view.out) }
+        { play_notes(rt, desk, other) },
+    )
+}
+
+// Whether a tape has just the notes of this player, in order.
+fn has_notes(tape: &[Step], player: u8) -> bool {
+    let mut next = 0u8;
+    let mut good = true;
+    for step in tape {
+        if let Step::Play {
+            player: by,
+            command,
+            ..
+        } = step
+        {
+            if *by == player {
+                good = good && *command == struck(player, next);
+                next = next.wrapping_add(1);
+            }
+        }
+    }
+    good && next == EACH
+}
+
+#[test]
+fn two_threads_at_a_desk(rt: HostRuntime) -> Result<(), Fail> {
+    let (desk, mut opening) = Desk::new(new_book(202, rt.alloc())?, rt.alloc())?;
+    let other = opening.split(&desk);
+    let ((mut opening, first), (other, second)) = two(&rt, &desk, opening, other);
+    assert!(rt; first && second);
+    opening.join(&desk, other);
+    let tape = desk.close(opening);
+    assert_eq!(rt; tape.len(), 202);
+    assert!(rt; has_notes(tape.as_slice(), 0) && has_notes(tape.as_slice(), 1));
     Ok(())
 }
