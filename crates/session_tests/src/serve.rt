@@ -8,7 +8,7 @@ use apple_session::PortKind;
 use jm_book::{Book, Config};
 use jm_cmds::{Channel, Command, D7};
 use jm_desk::{Desk, Pass};
-use jm_edge::{Addr, FreeGate, MemPort};
+use jm_edge::{Addr, Datagram, FreeGate, MemPort, StepTicker};
 use jm_serve::*;
 use jm_wire::Octets;
 use std::alloc::Global;
@@ -139,5 +139,58 @@ fn a_packet_when_it_is_due(rt: HostRuntime) -> Result<(), Fail> {
             send_faults: 1
         }
     );
+    Ok(())
+}
+
+const INVITATION: &[u8] =
+    b"\xFF\xFF\x49\x4E\x00\x00\x00\x02\x01\x02\x03\x04\x00\x00\x00\x22\x61\x00";
+
+const OK: &[u8] = b"\xFF\xFF\x4F\x4B\x00\x00\x00\x02\x01\x02\x03\x04\x11\x22\x33\x44midi_host\x00";
+
+// A packet of the participant: its number 0, a note at 0.
+const PLAYED: &[u8] = b"\x80\x61\x00\x00\x00\x00\x00\x00\x00\x00\x00\x22\x03\x90\x3C\x64";
+
+// The host's packet with that note, which was played at 50.
+const PASSED_ON: &[u8] = b"\x80\xE1\x00\x00\x00\x00\x00\x32\x11\x22\x33\x44\x03\x90\x3C\x64";
+
+// A participant comes, and plays a note; what is no message and a packet that came before are passed over. The note goes out
+// when 100 units have passed since the first round.
+#[test]
+fn what_a_participant_plays(rt: HostRuntime) -> Result<(), Fail> {
+    let (desk, mut pass) = Desk::new(new_book(rt.alloc())?, rt.alloc())?;
+    let invitation = Message::Invite {
+        token: 0x0102_0304,
+        ssrc: 0x22,
+        name: Name::new(b"a").ok_or("a name")?,
+    };
+    let _control = desk.say(&rt, &mut pass, PortKind::Ctl, CONTROL, &invitation, 0)?;
+    let mut arriving = Vec::new(rt.alloc());
+    arriving.push(Datagram::new(rt.alloc(), DATA, INVITATION)?)?;
+    arriving.push(Datagram::new(rt.alloc(), DATA, PLAYED)?)?;
+    arriving.push(Datagram::new(rt.alloc(), DATA, b"\xFF\xFF\x80")?)?;
+    arriving.push(Datagram::new(rt.alloc(), DATA, PLAYED)?)?;
+    let mut port = MemPort::new(rt.alloc(), arriving, 9, 900, &[], &[])?;
+    let mut ticks = StepTicker::new(0, 50);
+    let worked = serve_data(
+        &rt,
+        &desk,
+        &mut pass,
+        &mut port,
+        &mut ticks,
+        &FreeGate,
+        6,
+        rt.alloc(),
+    );
+    assert!(rt; port.sent_at(0) == Some((DATA, OK)));
+    assert!(rt; port.sent_at(1) == Some((DATA, PASSED_ON)));
+    assert!(rt; port.sent_at(2) == None);
+    assert_eq!(rt;
+        worked,
+        Worked {
+            end: WorkEnd::Made,
+            send_faults: 0
+        }
+    );
+    assert_eq!(rt; desk.front(&mut pass), 5);
     Ok(())
 }
