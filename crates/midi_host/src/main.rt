@@ -147,6 +147,8 @@ fn main(rt: HostRuntime) -> ExitCode {
 #[cfg(test)]
 mod invite_tests;
 #[cfg(test)]
+mod jam_tests;
+#[cfg(test)]
 mod loss_tests;
 #[cfg(test)]
 mod tests;
