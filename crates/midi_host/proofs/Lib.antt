@@ -4,3 +4,5 @@ pub mod WroteLemmas
 pub mod Progress
 pub mod ConversationLemmas
 pub mod ReplayLemmas
+pub mod StateTextLaws
+pub mod SessionShownLaws

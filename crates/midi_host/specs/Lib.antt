@@ -21,3 +21,4 @@ pub mod Ended
 pub mod Invite
 pub mod JamWords
 pub mod Jam
+pub mod SessionShown

@@ -3,6 +3,7 @@ ghost use Rattle.std.specs.Prelude.{◌≡◌, ◌≢◌, ◌≤◌, ◌↔◌, 
 ghost use Rattle.jm_edge.specs.Faults.{Rose};
 ghost use Rattle.midi_host.specs.Ends.{Ends, OnReadFault, OnWriteFault, ReadsFew, IsFaultless, Completes, HasFewLines};
 ghost use Rattle.midi_host.specs.Run.{verb_named, verb_of, answer_to};
+ghost use Rattle.midi_host.specs.SessionShown.{ShowsSessions};
 
 use super::answering::answer_lines;
 use super::read::Read;
@@ -56,6 +57,11 @@ fn verb_of(words: &[Word]) -> Option<VerbWord>
 /// `BadScript` come where the source and the sink met no fault, by whether each line is in the grammar.
 /// `ReadFault` comes only where the source's count of faults rose in this call, `WriteFault` only where the
 /// sink's did, and `NoMemory` where there was none.
+///
+/// `repair` shows a session's state: where the packets that came so far are of one session, each 1 to 32,767 ahead of the one before
+/// it and with a checkpoint of at most that one's number plus 1 (the first one with 0 or none), whatever was lost between, what
+/// `state` prints is the state that all of the session's packets up to the last one leave, unless more than 16 different parameters were
+/// entered in a channel since the last Reset State command.
 pub fn run<S: Source, K: Sink>(
     words: &[Word],
     source: &mut S,
@@ -76,6 +82,9 @@ pub fn run<S: Source, K: Sink>(
         → IsFaultless (K.faults sink.old) (K.faults sink.new)
         → IfSome (S.left source.old) (λ input. Completes result (answer_to words.now input)) }
     ensures few_lines { IfSome (S.left source.old) (HasFewLines result) }
+
+    // Each answer of `repair` to `state` behind packets of one session is the text of that session's state.
+    ensures shows_sessions { ShowsSessions result words.now (S.left source.old) (K.written sink.old) (K.written sink.new) }
 {
     match verb_of(words) {
         None => Status::Usage,
