@@ -1,10 +1,9 @@
 -- Each answer to `state` behind packets of one session is the text of the session's state.
-use Rattle.std.proofs.Common.{◌≡◌, ℕ, ◌+◌, ◌<◌, ◌≤◌, Bool, true, false, List, [], ◌∷◌, ◌++◌, Option, Some, None, length, map, refl, sym, ap, subst, ◌∙◌, inl, inr, arith, append_assoc}
-use Rattle.std.specs.Prelude.{Result, Ok, Err, ◌==◌, nat_le, nat_lt, if◌then◌else◌, IfSome}
+use Rattle.std.proofs.Common.{◌≡◌, ℕ, ◌+◌, ◌≤◌, Bool, true, false, List, [], ◌∷◌, ◌++◌, Option, Some, None, length, refl, sym, ap, subst, ◌∙◌, inl, inr, arith, append_assoc}
+use Rattle.std.specs.Prelude.{Result, Ok, Err, ◌==◌, nat_le, nat_lt, if◌then◌else◌}
 use Rattle.std.proofs.lemmas.Bool.{cases_Bool, eqb-true, le-ltb}
 use Rattle.jm_wire.specs.Readers.{◌>>=◌}
 use Rattle.jm_cmds.specs.declared.history.Sent.{Sent}
-use Rattle.jm_cmds.specs.declared.outcome.ReadError.{ReadError}
 use Rattle.jm_cmds.specs.declared.outcome.ReadError.TheVariants as errors
 use Rattle.jm_cmds.specs.History.{below}
 use Rattle.jm_cmds.specs.Sent.{packet_of}
@@ -31,7 +30,7 @@ use Rattle.jm_script.specs.AnswerText.{answer_text}
 use Rattle.midi_host.specs.declared.conversation.TheConstants.{MOST_LINES}
 use Rattle.midi_host.specs.Repair.{took_lines, taken_by, made_for, packet_to, shown, repaired_line, repair_lined}
 use Rattle.midi_host.specs.StateLines.{state_lines}
-use Rattle.midi_host.specs.Told.{Told, Lined, taken, refused, lined_by, after, told_none, told_bad, after_line, within_limits, told_by}
+use Rattle.midi_host.specs.Told.{Told, Lined, taken, refused, lined_by, after, after_line, within_limits, told_by}
 use Rattle.midi_host.specs.ToldBy.{told_by_nothing, told_by_more}
 use Rattle.midi_host.specs.declared.run.VerbWord.TheVariants.{Repair}
 use Rattle.midi_host.specs.declared.status.Status.{Status}

@@ -1,5 +1,5 @@
 -- A state that agrees with a session in which no channel is crowded has the lines of the session's state.
-use Rattle.std.proofs.Common.{◌≡◌, ℕ, zero, suc, ◌+◌, ◌<◌, ◌≤◌, Bool, true, false, List, [], ◌∷◌, ◌++◌, Option, None, refl, sym, ap, ◌∙◌, arith}
+use Rattle.std.proofs.Common.{◌≡◌, ℕ, zero, suc, ◌+◌, ◌<◌, Bool, true, false, List, [], Option, None, refl, ap, ◌∙◌, arith}
 use Rattle.std.specs.List.{flat_map}
 use Rattle.std.specs.Prelude.{option_map}
 use Rattle.jm_cmds.specs.declared.controls.ControlKind.{ControlKind}
@@ -14,7 +14,6 @@ use Rattle.jm_state.specs.Parts.{no_state, control_by, control_at, program_of, t
 use Rattle.jm_state.specs.ReplayLaws.{state_behind}
 use Rattle.jm_state.specs.Table.{value_at}
 use Rattle.jm_receiver.specs.Agreement.{Agrees, is_crowded}
-use Rattle.jm_script.specs.declared.answer.StatePart.{StatePart}
 use Rattle.jm_script.specs.declared.answer.StatePart.TheVariants.{Control, Note, Poly}
 use Rattle.midi_host.specs.declared.state_lines.Numbered.{Numbered}
 use Rattle.midi_host.specs.declared.state_lines.Numbered.TheVariants.{Controls, Params, Notes, Polys}
