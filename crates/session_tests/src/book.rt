@@ -6,6 +6,7 @@ use jm_cmds::{Channel, Command, D7};
 use jm_edge::Addr;
 use jm_wire::Octets;
 use std::alloc::Global;
+use std::process::Abort;
 use std::test::Fail;
 
 /// A call.
@@ -123,6 +124,19 @@ fn answer(book: &mut Book, line: Line, alloc: Global) -> Result<Told, Fail> {
     }
 }
 
+/// Each line in turn, with what it answers.
+fn all_told(
+    rt: &impl Abort,
+    alloc: Global,
+    book: &mut Book,
+    rows: &[(Line, Told)],
+) -> Result<(), Fail> {
+    for (line, told) in rows {
+        assert!(rt; answer(book, *line, alloc)? == *told, "{told:?}");
+    }
+    Ok(())
+}
+
 /// The octets of a packet cut now, behind the first twelve.
 fn cut(book: &mut Book, alloc: Global) -> Result<Octets, Fail> {
     let mut out = Octets::with_room(21_100, alloc)?;
@@ -157,29 +171,27 @@ fn two_steps_are_on_the_tape(rt: HostRuntime) -> Result<(), Fail> {
 #[test]
 fn two_marks(rt: HostRuntime) -> Result<(), Fail> {
     let mut book = session(rt.alloc())?;
-    for (line, told) in [
+    let rows = [
         (Line::Join(0x22), at(0, 64)),
         (Line::Join(0x33), at(0, 65)),
         (Line::Cut, packet(0)),
         (Line::Cut, packet(1)),
         (Line::Cut, packet(2)),
         (Line::Ack(0x22, 2), Told::Acked(Acked::Moved { mark: 2 })),
-    ] {
-        assert_eq!(rt; answer(&mut book, line, rt.alloc())?, told);
-    }
+    ];
+    all_told(&rt, rt.alloc(), &mut book, &rows)?;
     let both = cut(&mut book, rt.alloc())?;
     assert_eq!(rt; both.as_slice(), b"\x40\x80\x00\x00".as_slice());
     assert_eq!(rt; answer(&mut book, Line::Leave(0x33), rt.alloc())?, LEFT);
     let one = cut(&mut book, rt.alloc())?;
     assert_eq!(rt; one.as_slice(), b"\x40\x80\x00\x02".as_slice());
     let ahead = Acked::NotSent { last: Some(4) };
-    for (line, told) in [
+    let rows = [
         (Line::Ack(0x22, 9), Told::Acked(ahead)),
         (Line::Ack(0x22, 1), Told::Acked(Acked::Old { mark: 2 })),
         (Line::Ack(0x99, 1), STRANGER),
-    ] {
-        assert_eq!(rt; answer(&mut book, line, rt.alloc())?, told);
-    }
+    ];
+    all_told(&rt, rt.alloc(), &mut book, &rows)?;
     assert_eq!(rt; book.checkpoint(), 2);
     Ok(())
 }
@@ -187,7 +199,7 @@ fn two_marks(rt: HostRuntime) -> Result<(), Fail> {
 #[test]
 fn coming_back(rt: HostRuntime) -> Result<(), Fail> {
     let mut book = session(rt.alloc())?;
-    for (line, told) in [
+    let rows = [
         (Line::Join(0x22), at(0, 64)),
         (Line::Cut, packet(0)),
         (Line::Cut, packet(1)),
@@ -198,9 +210,8 @@ fn coming_back(rt: HostRuntime) -> Result<(), Fail> {
         (Line::Join(0x22), Told::Joined(Joined::Already)),
         (Line::Ack(0x22, 1), Told::Acked(Acked::Old { mark: 1 })),
         (Line::Ack(0x22, 0), Told::Acked(Acked::Old { mark: 1 })),
-    ] {
-        assert_eq!(rt; answer(&mut book, line, rt.alloc())?, told);
-    }
+    ];
+    all_told(&rt, rt.alloc(), &mut book, &rows)?;
     let next = cut(&mut book, rt.alloc())?;
     assert_eq!(rt; next.as_slice(), b"\x40\x80\x00\x01".as_slice());
     Ok(())
@@ -212,7 +223,7 @@ fn invitations_and_reports(rt: HostRuntime) -> Result<(), Fail> {
     let ahead = Acted::NotSent { last: Some(2) };
     let waits = Acted::Ignored(Why::NotJoined);
     let unknown = Acted::Ignored(Why::Unknown);
-    for (line, told) in [
+    let rows = [
         (Line::Join(0x22), at(0, 64)),
         (Line::Invite(CONTROL, 5004, 4, 0x22), PLAIN),
         (Line::Invite(DATA, 5005, 4, 0x22), PLAIN),
@@ -233,9 +244,8 @@ fn invitations_and_reports(rt: HostRuntime) -> Result<(), Fail> {
         (Line::Report(0x22, 2), unanswered(unknown)),
         (Line::Invite(DATA, 5007, 5, 0x22), PLAIN),
         (Line::Limit, unanswered(Acted::Ignored(Why::NotUsed))),
-    ] {
-        assert_eq!(rt; answer(&mut book, line, rt.alloc())?, told);
-    }
+    ];
+    all_told(&rt, rt.alloc(), &mut book, &rows)?;
     assert_eq!(rt; book.steps(), 11);
     Ok(())
 }
@@ -256,15 +266,14 @@ fn lists_of(book: &mut Book) -> Result<(FeedbackList, AddrList), Fail> {
 fn clock_feedback_and_bye(rt: HostRuntime) -> Result<(), Fail> {
     let mut book = session(rt.alloc())?;
     let behind = Acted::Clocked { offset: -38 };
-    for (line, told) in [
+    let rows = [
         (Line::Invite(CONTROL, 5004, 4, 0x22), PLAIN),
         (Line::Invite(DATA, 5005, 4, 0x22), joined(0, 64)),
         (Line::Clock(0, [10, 0, 0]), PLAIN),
         (Line::Clock(2, [10, 50, 14]), unanswered(behind)),
         (Line::Hear(0x22, 7), Told::Heard(Heard::Noted)),
-    ] {
-        assert_eq!(rt; answer(&mut book, line, rt.alloc())?, told);
-    }
+    ];
+    all_told(&rt, rt.alloc(), &mut book, &rows)?;
     let (list, data) = lists_of(&mut book)?;
     let to = Addr {
         host: HOME,
@@ -289,7 +298,7 @@ fn the_33rd_join(rt: HostRuntime) -> Result<(), Fail> {
         assert_eq!(rt; one, at(0, 64 + k));
     }
     let full = Told::Joined(Joined::SessionFull { most: 32 });
-    for (line, told) in [
+    let rows = [
         (Line::Join(0x63), full),
         (Line::Join(7), Told::Joined(Joined::Already)),
         (Line::Invite(CONTROL, 5004, 9, 0x63), PLAIN),
@@ -297,9 +306,8 @@ fn the_33rd_join(rt: HostRuntime) -> Result<(), Fail> {
         (Line::Leave(4), LEFT),
         (Line::Invite(DATA, 5005, 9, 0x63), joined(0, 68)),
         (Line::Join(4), full),
-    ] {
-        assert_eq!(rt; answer(&mut book, line, rt.alloc())?, told);
-    }
+    ];
+    all_told(&rt, rt.alloc(), &mut book, &rows)?;
     Ok(())
 }
 
@@ -316,7 +324,7 @@ fn full(alloc: Global) -> Result<Book, Fail> {
 #[test]
 fn a_full_list_of_peers(rt: HostRuntime) -> Result<(), Fail> {
     let mut book = full(rt.alloc())?;
-    for (line, told) in [
+    let rows = [
         (Line::Invite(CONTROL, 5004, 9, 0x63), PLAIN),
         (Line::Invite(DATA, 5008, 9, 0x63), PLAIN),
         (Line::Bye(5), unanswered(Acted::Left)),
@@ -325,9 +333,8 @@ fn a_full_list_of_peers(rt: HostRuntime) -> Result<(), Fail> {
         (Line::Invite(CONTROL, 5004, 9, 0x64), PLAIN),
         (Line::Hear(0x63, 258), Told::Heard(Heard::Noted)),
         (Line::Hear(2, 0xFFFF), Told::Heard(Heard::Noted)),
-    ] {
-        assert_eq!(rt; answer(&mut book, line, rt.alloc())?, told);
-    }
+    ];
+    all_told(&rt, rt.alloc(), &mut book, &rows)?;
     let (list, data) = lists_of(&mut book)?;
     let to = Addr {
         host: HOME,

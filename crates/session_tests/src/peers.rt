@@ -188,20 +188,16 @@ fn invitation_clock_bye(rt: HostRuntime) -> Result<(), Fail> {
     let mut host = host()?;
     let acked = Act::Ack { ssrc: 0x22, seq: 1 };
     let behind = Act::Clocked { offset: -38 };
-    for (to, now, octets, reply, act) in [
-        (CONTROL, 0u64, INVITATION, ACCEPTED, Act::Plain),
-        (DATA, 0, INVITATION, ACCEPTED, Act::Join(0x22)),
-        (DATA, 50, FIRST, SECOND, Act::Plain),
-        (DATA, 50, THIRD, NONE, behind),
-        (CONTROL, 60, FEEDBACK, NONE, acked),
-        (CONTROL, 70, BYE, NONE, Act::Leave(0x22)),
-        (CONTROL, 70, BYE, NONE, Act::Ignored(Why::Unknown)),
-    ] {
-        let (told, did) = heard(rt.alloc(), &mut host, true, to, octets, now)?;
-        assert_eq!(rt; told.as_slice(), reply);
-        assert_eq!(rt; did, act);
-    }
-    Ok(())
+    let rows = [
+        (true, CONTROL, INVITATION, ACCEPTED, Act::Plain),
+        (true, DATA, INVITATION, ACCEPTED, Act::Join(0x22)),
+        (true, DATA, FIRST, SECOND, Act::Plain),
+        (true, DATA, THIRD, NONE, behind),
+        (true, CONTROL, FEEDBACK, NONE, acked),
+        (true, CONTROL, BYE, NONE, Act::Leave(0x22)),
+        (true, CONTROL, BYE, NONE, Act::Ignored(Why::Unknown)),
+    ];
+    told(&rt, rt.alloc(), &mut host, &rows)
 }
 
 /// Each case in turn.
@@ -249,76 +245,79 @@ fn invitation(token: u32, ssrc: u32) -> Message {
     }
 }
 
+/// A port, the token and SSRC of an invitation to it, and what it answers: whether the reply is OK, and the act.
+type Invited = (PortKind, u32, u32, (bool, Act));
+
+/// Each invitation in turn.
+fn all_invited(rt: &impl Abort, host: &mut Session, rows: &[Invited]) {
+    for (port, token, ssrc, answer) in rows {
+        assert!(rt; invited(host, *port, *token, *ssrc) == *answer, "{ssrc:?}");
+    }
+}
+
 /// Whether the reply is OK, and what the session is to do.
 fn invited(host: &mut Session, port: PortKind, token: u32, ssrc: u32) -> (bool, Act) {
     let Answer { reply, act } = host.on_message(true, port, CONTROL.1, &invitation(token, ssrc), 0);
     (matches!(&reply, Some(Message::Accept { .. })), act)
 }
 
+/// The SSRC of the peer at this place.
+fn ssrc_at(host: &Session, place: usize) -> Option<u32> {
+    host.peer(place).map(|peer| peer.ssrc)
+}
+
+const PLAIN_OK: (bool, Act) = (true, Act::Plain);
+
+const PLAIN_NO: (bool, Act) = (false, Act::Plain);
+
+/// Behind 32 invitations to the control port.
+const FULL: [Invited; 3] = [
+    (PortKind::Rtp, 7, 1, (true, Act::Join(1))),
+    (PortKind::Rtp, 8, 2, PLAIN_NO),
+    (PortKind::Ctl, 7, 33, PLAIN_OK),
+];
+
 #[test]
 fn full_list(rt: HostRuntime) -> Result<(), Fail> {
     let mut host = host()?;
     for ssrc in 1..33u32 {
-        assert_eq!(rt;
-            invited(&mut host, PortKind::Ctl, 7, ssrc),
-            (true, Act::Plain)
-        );
+        all_invited(&rt, &mut host, &[(PortKind::Ctl, 7, ssrc, PLAIN_OK)]);
     }
-    assert_eq!(rt;
-        invited(&mut host, PortKind::Rtp, 7, 1),
-        (true, Act::Join(1))
-    );
-    assert_eq!(rt;
-        invited(&mut host, PortKind::Rtp, 8, 2),
-        (false, Act::Plain)
-    );
-    assert_eq!(rt;
-        invited(&mut host, PortKind::Ctl, 7, 33),
-        (true, Act::Plain)
-    );
-    assert_eq!(rt; host.peer(0).map(|peer| peer.ssrc), Some(1));
-    assert_eq!(rt; host.peer(1).map(|peer| peer.ssrc), Some(3));
-    assert_eq!(rt; host.peer(31).map(|peer| peer.ssrc), Some(33));
-    assert_eq!(rt; host.peer(32), None);
-    assert_eq!(rt;
-        invited(&mut host, PortKind::Ctl, 9, 1),
-        (true, Act::Leave(1))
-    );
+    all_invited(&rt, &mut host, &FULL);
+    assert_eq!(rt; ssrc_at(&host, 0), Some(1));
+    assert_eq!(rt; ssrc_at(&host, 1), Some(3));
+    assert_eq!(rt; ssrc_at(&host, 31), Some(33));
+    assert_eq!(rt; ssrc_at(&host, 32), None);
+    let anew = (PortKind::Ctl, 9, 1, (true, Act::Leave(1)));
+    all_invited(&rt, &mut host, &[anew]);
     host.drop_peer(1);
-    assert_eq!(rt; host.peer(0).map(|peer| peer.ssrc), Some(3));
-    assert_eq!(rt;
-        invited(&mut host, PortKind::Ctl, 9, 0x1122_3344),
-        (false, Act::Plain)
-    );
+    assert_eq!(rt; ssrc_at(&host, 0), Some(3));
+    let own = (PortKind::Ctl, 9, 0x1122_3344, PLAIN_NO);
+    all_invited(&rt, &mut host, &[own]);
     Ok(())
 }
+
+/// Behind 32 peers that have joined.
+const ALL_JOINED: [Invited; 6] = [
+    (PortKind::Ctl, 7, 33, PLAIN_NO),
+    (PortKind::Ctl, 8, 5, (true, Act::Leave(5))),
+    (PortKind::Ctl, 7, 33, PLAIN_OK),
+    (PortKind::Ctl, 7, 34, PLAIN_OK),
+    (PortKind::Rtp, 7, 33, PLAIN_NO),
+    (PortKind::Rtp, 7, 34, (true, Act::Join(34))),
+];
 
 #[test]
 fn all_joined(rt: HostRuntime) -> Result<(), Fail> {
     let mut host = host()?;
     for ssrc in 1..33u32 {
-        assert_eq!(rt;
-            invited(&mut host, PortKind::Ctl, 7, ssrc),
-            (true, Act::Plain)
-        );
-        assert_eq!(rt;
-            invited(&mut host, PortKind::Rtp, 7, ssrc),
-            (true, Act::Join(ssrc))
-        );
+        let asked = (PortKind::Ctl, 7, ssrc, PLAIN_OK);
+        let joined = (PortKind::Rtp, 7, ssrc, (true, Act::Join(ssrc)));
+        all_invited(&rt, &mut host, &[asked, joined]);
     }
-    for (port, ssrc, answer) in [
-        (PortKind::Ctl, 33u32, (false, Act::Plain)),
-        (PortKind::Ctl, 5, (true, Act::Leave(5))),
-        (PortKind::Ctl, 33, (true, Act::Plain)),
-        (PortKind::Ctl, 34, (true, Act::Plain)),
-        (PortKind::Rtp, 33, (false, Act::Plain)),
-        (PortKind::Rtp, 34, (true, Act::Join(34))),
-    ] {
-        let token = if ssrc == 5 { 8 } else { 7 };
-        assert_eq!(rt; invited(&mut host, port, token, ssrc), answer);
-    }
-    assert_eq!(rt; host.peer(3).map(|peer| peer.ssrc), Some(4));
-    assert_eq!(rt; host.peer(4).map(|peer| peer.ssrc), Some(6));
-    assert_eq!(rt; host.peer(31).map(|peer| peer.ssrc), Some(34));
+    all_invited(&rt, &mut host, &ALL_JOINED);
+    assert_eq!(rt; ssrc_at(&host, 3), Some(4));
+    assert_eq!(rt; ssrc_at(&host, 4), Some(6));
+    assert_eq!(rt; ssrc_at(&host, 31), Some(34));
     Ok(())
 }
