@@ -1,3 +1,15 @@
 mod Bounds
 mod Loops
 mod Sent
+mod SpelledEvents
+mod SpelledFiles
+mod ReadEvents
+mod ReadFiles
+mod FileLaws
+mod WrittenEvents
+mod WrittenFiles
+mod Lasting
+mod Completing
+mod ShownEvents
+mod ShownTracks
+mod ShownFiles

@@ -11,6 +11,7 @@ mod cuts;
 mod escape;
 mod event;
 mod fault;
+pub mod laws;
 mod list;
 mod reading;
 mod timed;
