@@ -1,6 +1,7 @@
 mod Bounds
 mod Loops
 mod Sent
+mod Told
 mod SpelledEvents
 mod SpelledFiles
 mod ReadEvents

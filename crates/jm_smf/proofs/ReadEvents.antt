@@ -24,7 +24,7 @@ use Rattle.jm_smf.specs.declared.before.Before.{Before}
 use Rattle.jm_smf.specs.declared.event.Heard.{Heard}
 use Rattle.jm_smf.specs.Reading.{field_read, block_within, block_read, block_at, is_ended, silent, meta_read, message_heard, message_of, message_read, commands_read, or_none, escape_of, escape_read, channel_heard, running_read, what_read}
 use Rattle.jm_smf.specs.Grammar.{IsBlock, IsUnended, Escapes, wholly, passed, no_running, SpellsEvent, with_status, without_status, meta, message, message_begins, message_goes_on, message_ends, escape}
-use Rattle.jm_smf.proofs.SpelledEvents.{ended_is, ends_apart, commands_are_read, some_octets, read_are_spelled}
+use Rattle.jm_smf.proofs.SpelledEvents.{no_less, ended_is, ends_apart, commands_are_read, some_octets, read_are_spelled}
 
 -- what holds of each first step, and of each next one behind it, holds of both
 pub if_then : {A B F : Type 0} (r : Result A F) (g : A → Result B F) (P : A → Type 0) (Q : B → Type 0) → IfOk r P → ((x : A) → P x → IfOk (g x) Q) → IfOk (r >>= g) Q
@@ -246,9 +246,6 @@ escape_stands place before rest =
 
 first_of : (command : Command) (rest : List ℕ) → get_or (spelling command ++ rest) 0 0 ≡ status_of command
 first_of command rest = get_or_append_left (spelling command) rest 0 0 (some_octets command)
-
-no_less : (n : ℕ) → n - 0 ≡ n
-no_less n = omega arith
 
 channel_stands : (place : ℕ) (before : Before) (status : ℕ) (rest : List ℕ) (read : Result (Command × ℕ) CmdFault) → status < 0xf0 → command_read (status ∷ rest) ≡ read
     → IfOk (channel_heard place before status 0 read) (Stands before (status ∷ rest))

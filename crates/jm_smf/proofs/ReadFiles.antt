@@ -14,6 +14,7 @@ use Rattle.jm_smf.specs.declared.event.Heard.{Heard}
 use Rattle.jm_smf.specs.declared.timed.Timed.{Timed}
 use Rattle.jm_smf.specs.Reading.{field_read, what_read, behind_field, event_read, timed_at, before_events, track_read, nothing_before, number2, number4, size_at, chunk_read, is_track, chunk_heard, chunks_read, agrees, header_name, fields_read, header_read, file_read}
 use Rattle.jm_smf.specs.Grammar.{SpellsEvent, SpellsTrack, track_ends, one_more, IsSize, four, IsChunk, track_name, SpellsChunks, first_track, passed_over, IsHeader, header, IsFile}
+use Rattle.jm_smf.proofs.Told.{less_eight}
 use Rattle.jm_smf.proofs.SpelledFiles.{spread}
 use Rattle.jm_smf.proofs.ReadEvents.{if_then, HasRunning, none_running, Stands, what_stands}
 
@@ -143,9 +144,6 @@ pub record ChunkStands (octets : List ℕ) (size : ℕ) : Type 0 where
   pub size_is : size ≡ 8 + length inside
   pub inside_is : take (size - 8) (drop 8 octets) ≡ inside
   pub rest_is : drop size octets ≡ rest
-
-less_eight : (n : ℕ) → 8 + n - 8 ≡ n
-less_eight n = omega arith
 
 pub chunk_here : (a b c d s t u v : ℕ) (more : List ℕ) → 8 + number4 s t u v ≤ length (a ∷ b ∷ c ∷ d ∷ s ∷ t ∷ u ∷ v ∷ more)
     → ChunkStands (a ∷ b ∷ c ∷ d ∷ s ∷ t ∷ u ∷ v ∷ more) (8 + number4 s t u v)

@@ -20,6 +20,7 @@ use Rattle.jm_smf.specs.declared.fault.FileFault.{FileFault}
 use Rattle.jm_smf.specs.declared.fault.FileFault.TheVariants.{Short, BadEvent, NoStatus}
 use Rattle.jm_smf.specs.Reading.{field_read, block_within, block_read, block_at, is_ended, silent, meta_read, message_heard, message_of, message_read, escape_of, escape_read, channel_heard, running_read, what_read, behind_field, event_read}
 use Rattle.jm_smf.specs.Faults.{IsCutOff, IsNever, StandsEvent, some_event, last_event, NeedsStatus, EventShows, event_cut_off, needs_status, never_event}
+use Rattle.jm_smf.proofs.Told.{IsTold, never_told}
 use Rattle.jm_smf.proofs.SpelledFiles.{ends_there, event_stands}
 use Rattle.jm_smf.proofs.ReadEvents.{HasRunning}
 use Rattle.jm_smf.proofs.ReadFiles.{NextStands, LastStands, AfterDelta}
@@ -182,24 +183,14 @@ needs_is_read place before octets n =
 
 -- ---- what stands is read
 
-pub record IsTold (r : Result (Option (ℕ × Heard)) FileFault) : Type 0 where
-  pub next : Option (ℕ × Heard)
-  pub told : r ≡ Ok next
-
 pub stands_told : (place : ℕ) (before : Before) (octets : List ℕ) → StandsEvent before octets → IsTold (event_read place before octets)
 stands_told place before octets (some_event field text rest commands after f s) =
-    record { next = Some (value field, record { commands = commands; used = length field + length text; after = after }); told = event_stands place before field text rest commands after f s }
-stands_told place before octets (last_event field rest f) = record { next = None; told = ends_there place before field rest f }
+    record { value = Some (value field, record { commands = commands; used = length field + length text; after = after }); told = event_stands place before field text rest commands after f s }
+stands_told place before octets (last_event field rest f) = record { value = None; told = ends_there place before field rest f }
 
 pub told_stands : (before : Before) (octets : List ℕ) (next : Option (ℕ × Heard)) → AfterDelta before octets next → StandsEvent before octets
 told_stands before octets None s = subst (StandsEvent before) (sym s.split) (last_event s.field s.rest s.field_is)
 told_stands before octets (Some (delta, heard)) s = subst (StandsEvent before) (sym s.split) (some_event s.field s.text s.rest heard.commands heard.after s.field_is s.spelled)
-
-pub never_told : (r : Result (Option (ℕ × Heard)) FileFault) (f : FileFault) → IsTold r → r ≡ Err f → ⊥
-never_told r f t e = let never : Ok t.next ≡ Err f = sym t.told ∙ e in differ t.next f never
-  where
-    differ : (next : Option (ℕ × Heard)) (f : FileFault) → ◌≡◌ {A = Result (Option (ℕ × Heard)) FileFault} (Ok next) (Err f) → ⊥
-    differ next f e = cc
 
 -- ---- faults of events
 

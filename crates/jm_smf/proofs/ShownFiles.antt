@@ -11,6 +11,7 @@ use Rattle.jm_smf.specs.declared.fault.FileFault.TheVariants.{NotSmf, Short, Hea
 use Rattle.jm_smf.specs.Reading.{nothing_before, number2, number4, size_at, chunk_read, is_track, chunk_heard, chunks_read, agrees, header_name, format_at, division_at, fields_read, header_read, file_read, track_read}
 use Rattle.jm_smf.specs.Grammar.{IsChunk, track_name, IsHeader, header}
 use Rattle.jm_smf.specs.Faults.{IsCutOff, StandsChunk, some_chunk, ChunkShows, chunk_cut_off, track_shows, WholeChunks, no_chunk, chunk_then, ChunksShow, StandsHeader, some_header, HeaderShows, too_small, other_format, no_ticks, in_frames, FileShows, other_name, header_cut_off, header_shows, chunks_show, TrackShows}
+use Rattle.jm_smf.proofs.Told.{IsTold, never_told, same_value, no_length, less_eight}
 use Rattle.jm_smf.proofs.SpelledFiles.{spread, chunk_is_read, behind_head, behind_chunk, chunk_len, track_named, other_named, header_is_read}
 use Rattle.jm_smf.proofs.ReadEvents.{none_running}
 use Rattle.jm_smf.proofs.ReadFiles.{Eight, eight, ChunkStands, chunk_here, chunk_stands, track_begins, name_begins}
@@ -51,18 +52,8 @@ chunk_completed octets =
 stands_chunk : (octets : List ℕ) (size : ℕ) → ChunkStands octets size → StandsChunk octets
 stands_chunk octets size s = subst StandsChunk (sym s.split) (some_chunk s.text (s.a ∷ s.b ∷ s.c ∷ s.d ∷ []) s.inside s.rest s.is_chunk)
 
-record IsTold (r : Result ℕ FileFault) : Type 0 where
-  size : ℕ
-  told : r ≡ Ok size
-
 chunk_told : (place : ℕ) (octets : List ℕ) → StandsChunk octets → IsTold (chunk_read place octets)
-chunk_told place octets (some_chunk text name inside rest c) = record { size = 8 + length inside; told = chunk_is_read place text name inside rest c }
-
-never_told : (r : Result ℕ FileFault) (f : FileFault) → IsTold r → r ≡ Err f → ⊥
-never_told r f t e = differ t.size f (sym t.told ∙ e)
-  where
-    differ : (size : ℕ) (f : FileFault) → ◌≡◌ {A = Result ℕ FileFault} (Ok size) (Err f) → ⊥
-    differ size f e = cc
+chunk_told place octets (some_chunk text name inside rest c) = record { value = 8 + length inside; told = chunk_is_read place text name inside rest c }
 
 -- a chunk is refused only for its end
 chunk_refused : (place : ℕ) (octets : List ℕ) → IfErr (chunk_read place octets) (λ f. f ≡ Short place)
@@ -92,9 +83,6 @@ cut_off_is_read place octets c = by_read (chunk_read place octets) refl
     by_read : (r : Result ℕ FileFault) → chunk_read place octets ≡ r → r ≡ Err (Short place)
     by_read (Ok size) e = absurd (c.none_yet (stands_chunk octets size (rw e at (chunk_stands place octets))))
     by_read (Err f) e = ap (λ (fault : FileFault). Err fault) (rw e at (chunk_refused place octets))
-
-no_length : (place : ℕ) → place ≡ place + 0
-no_length place = omega arith
 
 shows_here : (place : ℕ) (octets : List ℕ) (f : FileFault) → ChunkShows place octets f → ChunksShow place octets f
 shows_here place octets f s = record { front = []; rest = octets; split = refl; whole = no_chunk; shown = subst (λ (p : ℕ). ChunkShows p octets f) (no_length place) s }
@@ -158,12 +146,6 @@ chunks_refused (suc n) place octets few =
         → IfErr (r >>= λ size. chunk_heard place size octets (chunks_read n (place + size) (drop size octets))) (ChunksShow place octets)
     by_read (Err f) e s later = cut_off_shows place octets f e
     by_read (Ok size) e s later = let size_is = s.size_is in by_name size s (later size (omega (arith, size_is)))
-
-less_eight : (n : ℕ) → 8 + n - 8 ≡ n
-less_eight n = omega arith
-
-same_fault : (f g : FileFault) → ◌≡◌ {A = Result ℕ FileFault} (Err f) (Err g) → f ≡ g
-same_fault f g e = cc
 
 -- What a chunk shows is told.
 shown_there : (n place : ℕ) (octets : List ℕ) (f : FileFault) → length octets ≤ n → ChunkShows place octets f → chunks_read n place octets ≡ Err f
@@ -380,11 +362,8 @@ by_fields octets size s named (Ok n) e h =
       rest_is = ap (λ (m : ℕ). drop m octets) same ∙ s.rest_is;
     }
   where
-    one : (size n : ℕ) → ◌≡◌ {A = Result ℕ FileFault} (Ok size) (Ok n) → n ≡ size
-    one size n e = cc
-
     differ : (f : FileFault) (n : ℕ) → ◌≡◌ {A = Result ℕ FileFault} (Err f) (Ok n) → ⊥
-    differ f n e = cc
+    differ f n e = never_told (Ok n) f (record { value = n; told = refl }) (sym e)
 
     fields_size : (octets : List ℕ) (size n : ℕ) → fields_read octets size ≡ Ok n → n ≡ size
     fields_size octets size n e =
@@ -394,7 +373,7 @@ by_fields octets size s named (Ok n) e h =
             | inl t ↦ absurd (differ (Format (format_at octets)) n (rw (long, t) at e))
             | inr format ↦ elim (cases_Bool (eqb (division_at octets) 0 || leb 0x8000 (division_at octets))) [
               | inl t ↦ absurd (differ (Division (division_at octets)) n (rw (long, format, t) at e))
-              | inr f ↦ one size n (rw (long, format, f) at e)
+              | inr f ↦ sym (same_value size n (rw (long, format, f) at e))
             ]
           ]
         ]

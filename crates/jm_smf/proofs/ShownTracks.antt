@@ -14,11 +14,12 @@ use Rattle.jm_smf.specs.declared.fault.FileFault.TheVariants.{Short, NoStatus}
 use Rattle.jm_smf.specs.Reading.{event_read, before_events, track_read, timed_at}
 use Rattle.jm_smf.specs.Grammar.{SpellsEvent, with_status, without_status, meta, message, message_begins, message_goes_on, message_ends, escape}
 use Rattle.jm_smf.specs.Faults.{IsCutOff, StandsEvent, NeedsStatus, EventShows, event_cut_off, needs_status, never_event, WholeEvents, no_event, event_then, TrackShows}
+use Rattle.jm_smf.proofs.Told.{never_told, same_fault, no_length}
 use Rattle.jm_smf.proofs.SpelledFiles.{some_octet, event_stands}
 use Rattle.jm_smf.proofs.ReadEvents.{HasRunning, none_running, some_running}
 use Rattle.jm_smf.proofs.ReadFiles.{NextStands, AfterDelta}
 use Rattle.jm_smf.proofs.ReadFiles as read
-use Rattle.jm_smf.proofs.ShownEvents.{needs_is_read, stands_told, told_stands, never_told, event_shows}
+use Rattle.jm_smf.proofs.ShownEvents.{needs_is_read, stands_told, told_stands, event_shows}
 
 -- ---- events
 
@@ -79,9 +80,6 @@ nothing_there : (place : ℕ) (before : Before) → event_read place before [] �
 unfolding event_read
 nothing_there place before = rw ((short_is []).1 (refl, omega arith)) refl
 
-no_length : (place : ℕ) → place ≡ place + 0
-no_length place = omega arith
-
 shows_here : (place : ℕ) (before : Before) (octets : List ℕ) (f : FileFault) → EventShows place before octets f → TrackShows place before octets f
 shows_here place before octets f s = record {
   front = [];
@@ -139,15 +137,12 @@ track_shows (suc n) place tick before octets few h =
         fault_then (track_read n (place + heard.used) (tick + delta) heard.after (drop heard.used octets)) (λ list. timed_at (tick + delta) heard.commands ++ list) (TrackShows (place + heard.used) heard.after (drop heard.used octets)) (TrackShows place before octets)
         (behind_event place before octets delta heard s left) (later delta heard (omega (arith, some, used)) s.running)
 
-same_fault : (f g : FileFault) → ◌≡◌ {A = Result (Option (ℕ × Heard)) FileFault} (Err f) (Err g) → f ≡ g
-same_fault f g e = cc
-
 shown_behind : (n place tick : ℕ) (before last : Before) (front rest : List ℕ) (f : FileFault) → WholeEvents before front last → length (front ++ rest) ≤ n → HasRunning before → EventShows (place + length front) last rest f
     → track_read n place tick before (front ++ rest) ≡ Err f
 unfolding track_read
 shown_behind zero place tick before last front [] f (no_event old) few h s =
     ap (λ (fault : FileFault). Err fault)
-    (same_fault (Short place) f (sym (nothing_there place old) ∙ shown_is_told place old [] f h (subst (λ (p : ℕ). EventShows p old [] f) (sym (no_length place)) s)))
+    (same_fault {A = Option (ℕ × Heard)} (Short place) f (sym (nothing_there place old) ∙ shown_is_told place old [] f h (subst (λ (p : ℕ). EventShows p old [] f) (sym (no_length place)) s)))
 shown_behind zero place tick before last front (o ∷ rest) f (no_event old) few h s = absurd (omega (arith, few))
 shown_behind (suc n) place tick before last front rest f (no_event old) few h s =
     rw (shown_is_told place old rest f h (subst (λ (p : ℕ). EventShows p old rest f) (sym (no_length place)) s)) refl

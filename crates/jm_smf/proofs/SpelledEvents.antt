@@ -190,7 +190,7 @@ escape_told octets commands (passed others unspelled) = none_read others unspell
 
 -- ---- channel commands
 
-no_less : (n : ℕ) → n - 0 ≡ n
+pub no_less : (n : ℕ) → n - 0 ≡ n
 no_less n = omega arith
 
 channel_at : (place : ℕ) (before : Before) (status : ℕ) (rest : List ℕ) → 128 ≤ status → status < 240 → what_read place before (status ∷ rest) ≡ channel_heard place before status 0 (command_read (status ∷ rest))

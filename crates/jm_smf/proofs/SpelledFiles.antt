@@ -1,5 +1,5 @@
 -- A file that is spelled is read.
-use Rattle.std.proofs.Common.{◌≡◌, ◌≢◌, ℕ, zero, suc, ◌+◌, ◌-◌, ◌≤◌, true, false, eqb, List, [], ◌∷◌, ◌++◌, drop, take, length, Option, Some, None, Result, Ok, refl, ap, ◌∙◌, length-append, arith, inl, inr}
+use Rattle.std.proofs.Common.{◌≡◌, ◌≢◌, ℕ, zero, suc, ◌+◌, ◌≤◌, true, false, eqb, List, [], ◌∷◌, ◌++◌, drop, take, length, Option, Some, None, Result, Ok, refl, ap, ◌∙◌, length-append, arith, inl, inr}
 use Rattle.std.specs.Prelude.{nat_lt, nat_le}
 use Rattle.std.proofs.lemmas.Bool.{le-ltb, lt-leb, eqb-true, ne_eqb, cases_Bool}
 use Rattle.std.proofs.Math.Seq.{take-append_seam, drop-append_seam, drop-append-add}
@@ -12,6 +12,7 @@ use Rattle.jm_smf.specs.declared.timed.Timed.{Timed}
 use Rattle.jm_smf.specs.declared.fault.FileFault.{FileFault}
 use Rattle.jm_smf.specs.Reading.{what_read, event_read, track_read, nothing_before, number2, number4, chunk_read, is_track, chunks_read, agrees, header_name, fields_read, header_read, file_read}
 use Rattle.jm_smf.specs.Grammar.{SpellsEvent, SpellsTrack, track_ends, one_more, IsSize, four, IsChunk, track_name, SpellsChunks, first_track, passed_over, IsHeader, header, IsFile}
+use Rattle.jm_smf.proofs.Told.{less_eight}
 use Rattle.jm_smf.proofs.SpelledEvents.{event_is_read}
 
 -- ---- events with their deltas
@@ -142,9 +143,6 @@ chunk_len text name octets c =
     let len' = length-append octets [] in
     let all : length (text ++ []) ≡ length (p.a ∷ p.b ∷ p.c ∷ p.d ∷ p.s ∷ p.t ∷ p.u ∷ p.v ∷ (octets ++ [])) = ap (λ (t : List ℕ). length t) p.text_is in
     omega (arith, len, len', all)
-
-less_eight : (n : ℕ) → 8 + n - 8 ≡ n
-less_eight n = omega arith
 
 pub chunks_are_read : (n place : ℕ) (octets : List ℕ) (list : List Timed) → SpellsChunks octets list → length octets ≤ n → chunks_read n place octets ≡ Ok list
 unfolding chunks_read
