@@ -20,8 +20,9 @@ pub fn files_read_back()
     ensures { FilesReadBack }
 {}
 
-/// A fault is told exactly where the octets show it, by definitions that are told apart from reading: all before its place stands whole,
-/// and at its place no chunk or event stands. It is `Short` where further octets would make one, and another where nothing would.
+/// A fault is told exactly where the octets show it, by definitions that are told apart from reading. Before its place stand whole chunks
+/// and events alone. At its place stands a header that is refused, or no chunk and no event: it is `Short` where further octets would
+/// make one, and another fault where none would.
 pub fn faults_are_shown()
     ensures { FaultsAreShown }
 {}
