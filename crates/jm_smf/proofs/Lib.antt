@@ -7,6 +7,7 @@ mod SpelledFiles
 mod ReadEvents
 mod ReadFiles
 mod FileLaws
+mod FileLists
 mod WrittenEvents
 mod WrittenFiles
 mod Lasting

@@ -29,6 +29,10 @@ tick_of timed = timed.tick
 abbrev pub earlier : (ticks : ℕ) → Timed → Timed
 earlier ticks timed = record { tick = timed.tick - ticks; command = timed.command }
 
+-- The commands that a file spells are within their bounds, and their ticks never fall.
+abbrev pub ListsAreInOrder : Type 0
+ListsAreInOrder = (octets : List ℕ) (list : List Timed) → IsFile octets list → AreCommands list × InOrder tick_of list
+
 -- the first tick taken from each: the first command at 0, and every other as far behind it as before
 abbrev pub from_first : List Timed → List Timed
 from_first [] = []
