@@ -6,3 +6,7 @@ pub mod ConversationLemmas
 pub mod ReplayLemmas
 pub mod StateTextLaws
 pub mod SessionShownLaws
+mod ServeParsing
+mod Removing
+mod Attending
+mod ServingPasses

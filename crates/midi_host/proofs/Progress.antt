@@ -7,7 +7,7 @@ use Rattle.std.specs.Option.{option_map}
 use Rattle.std.specs.Bool.{⊤}
 use Rattle.midi_host.specs.declared.conversation.TheConstants.{MOST_LINES}
 use Rattle.midi_host.specs.declared.status.Status.{Status}
-use Rattle.midi_host.specs.declared.status.Status.TheVariants.{Done, Usage, BadScript, ReadFault, WriteFault, NoMemory, PortFault}
+use Rattle.midi_host.specs.declared.status.Status.TheVariants.{Done, Usage, BadScript, ReadFault, WriteFault, NoMemory, PortFault, RecordFull}
 use Rattle.midi_host.specs.Text.{lines_of, is_whole, IsOfLine}
 use Rattle.midi_host.specs.Told.{Told, Lined, after, told_none, told_by}
 use Rattle.midi_host.specs.ToldBy.{told_by_few}
@@ -151,6 +151,7 @@ Ends-finish NoMemory answer now line (Some input) (Some rest) left'' wrote wrote
 Ends-finish Usage answer now line left left' left'' wrote wrote' wrote'' c e f = absurd f
 Ends-finish ReadFault answer now line left left' left'' wrote wrote' wrote'' c e f = absurd f
 Ends-finish PortFault answer now line left left' left'' wrote wrote' wrote'' c e f = absurd f
+Ends-finish RecordFull answer now line left left' left'' wrote wrote' wrote'' c e f = absurd f
 
 -- no count rose where none came
 faultless_rose : (before after : ℕ) → IsFaultless before after → Rose before after → ⊥
@@ -166,6 +167,7 @@ Completes-from Usage answer (Some input) left' wrote wrote' reads reads' writes 
 Completes-from ReadFault answer (Some input) left' wrote wrote' reads reads' writes writes' u e r w f g = absurd (faultless_rose reads reads' f r)
 Completes-from WriteFault answer (Some input) left' wrote wrote' reads reads' writes writes' u e r w f g = absurd (faultless_rose writes writes' g w)
 Completes-from PortFault answer (Some input) left' wrote wrote' reads reads' writes writes' u e r w f g = absurd e
+Completes-from RecordFull answer (Some input) left' wrote wrote' reads reads' writes writes' u e r w f g = absurd e
 
 -- an input that is answered whole has few lines
 pub HasFewLines-from : {State : Type 0} (status : Status) (longest : ℕ) (lined : State → List ℕ → Lined State) (state : State) (left left' wrote wrote' : Option (List ℕ)) → Ends status (λ text. told_by longest lined 0 state (lines_of text)) left left' wrote wrote' → IfSome left (λ input. HasFewLines status input)
@@ -179,6 +181,7 @@ HasFewLines-from Usage longest lined state (Some input) left' wrote wrote' e = t
 HasFewLines-from ReadFault longest lined state (Some input) left' wrote wrote' e = tt
 HasFewLines-from WriteFault longest lined state (Some input) left' wrote wrote' e = tt
 HasFewLines-from PortFault longest lined state (Some input) left' wrote wrote' e = absurd e
+HasFewLines-from RecordFull longest lined state (Some input) left' wrote wrote' e = absurd e
 
 -- each read so far brought an octet at least, where the source tells what is left
 abbrev pub ReadSoFar : (left left' : Option (List ℕ)) → (reads reads' : ℕ) → Type 0

@@ -34,7 +34,7 @@ use Rattle.midi_host.specs.Told.{Told, Lined, taken, refused, lined_by, after, a
 use Rattle.midi_host.specs.ToldBy.{told_by_nothing, told_by_more}
 use Rattle.midi_host.specs.declared.run.VerbWord.TheVariants.{Repair}
 use Rattle.midi_host.specs.declared.status.Status.{Status}
-use Rattle.midi_host.specs.declared.status.Status.TheVariants.{Done, Usage, BadScript, ReadFault, WriteFault, NoMemory, PortFault}
+use Rattle.midi_host.specs.declared.status.Status.TheVariants.{Done, Usage, BadScript, ReadFault, WriteFault, NoMemory, PortFault, RecordFull}
 use Rattle.midi_host.specs.Ends.{Ends}
 use Rattle.midi_host.specs.Run.{verb_of, repair_answer}
 use Rattle.midi_host.specs.Text.{lines_of}
@@ -332,6 +332,7 @@ shows_sessions ReadFault words left left' wrote wrote' e = tt
 shows_sessions WriteFault words left left' wrote wrote' e = tt
 shows_sessions NoMemory words left left' wrote wrote' e = tt
 shows_sessions PortFault words left left' wrote wrote' e = tt
+shows_sessions RecordFull words left left' wrote wrote' e = tt
 
 -- Of other words nothing is said.
 pub shows_none : (status : Status) (words : List (List ℕ)) (left wrote wrote' : Option (List ℕ)) → (verb_of words ≡ Some Repair → ⊥) → ShowsSessions status words left wrote wrote'
@@ -343,3 +344,4 @@ shows_none ReadFault words left wrote wrote' other = tt
 shows_none WriteFault words left wrote wrote' other = tt
 shows_none NoMemory words left wrote wrote' other = tt
 shows_none PortFault words left wrote wrote' other = tt
+shows_none RecordFull words left wrote wrote' other = tt

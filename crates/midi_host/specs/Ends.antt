@@ -1,7 +1,7 @@
 -- How a run ends: its status, what was read and what was written, for an input that the source tells.
 use Rattle.std.specs.Prelude.{◌≡◌, ℕ, ◌+◌, ◌-◌, ◌^◌, ◌<◌, ◌≤◌, true, false, List, [], ◌++◌, Option, Some, IfSome, IsTrue, length, ⊤}
 use Rattle.midi_host.specs.declared.status.Status.{Status}
-use Rattle.midi_host.specs.declared.status.Status.TheVariants.{Done, Usage, BadScript, ReadFault, WriteFault, NoMemory, PortFault}
+use Rattle.midi_host.specs.declared.status.Status.TheVariants.{Done, Usage, BadScript, ReadFault, WriteFault, NoMemory, PortFault, RecordFull}
 use Rattle.midi_host.specs.declared.conversation.TheConstants.{MOST_LINES}
 use Rattle.midi_host.specs.Text.{lines_of, is_whole, IsOfLine}
 use Rattle.midi_host.specs.Told.{Told}
@@ -28,6 +28,7 @@ Ends ReadFault answer left left' wrote wrote' = IfSome left (λ input. EndsAtFau
 Ends WriteFault answer left left' wrote wrote' = IfSome left (λ input. WrotePart wrote wrote' (answer input).text)
 Ends NoMemory answer left left' wrote wrote' = IfSome left (λ input. WrotePart wrote wrote' (answer input).text)
 Ends PortFault answer left left' wrote wrote' = ⊥
+Ends RecordFull answer left left' wrote wrote' = ⊥
 
 -- a fact for the one status
 abbrev pub OnReadFault : Status → Type 0 → Type 0
@@ -47,6 +48,7 @@ Finishes NoMemory told wrote wrote' = WrotePart wrote wrote' told.text
 Finishes Usage told wrote wrote' = ⊥
 Finishes ReadFault told wrote wrote' = ⊥
 Finishes PortFault told wrote wrote' = ⊥
+Finishes RecordFull told wrote wrote' = ⊥
 
 -- a count of faults stayed, below its last value: none came
 pub record IsFaultless (before after : ℕ) : Type 0 where
@@ -62,6 +64,7 @@ Completes Usage told = ⊥
 Completes ReadFault told = ⊥
 Completes WriteFault told = ⊥
 Completes PortFault told = ⊥
+Completes RecordFull told = ⊥
 
 -- an input that is answered whole has no more lines than one may have
 abbrev pub HasFewLines : Status → List ℕ → Type 0

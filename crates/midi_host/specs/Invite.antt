@@ -9,7 +9,7 @@ use Rattle.apple_call.specs.Whole.{Outside, CallEnds}
 use Rattle.jm_edge.specs.Faults.{Rose}
 use Rattle.midi_host.specs.declared.invitation.Invitation.{Invitation}
 use Rattle.midi_host.specs.declared.status.Status.{Status}
-use Rattle.midi_host.specs.declared.status.Status.TheVariants.{Done, Usage, BadScript, ReadFault, WriteFault, NoMemory, PortFault}
+use Rattle.midi_host.specs.declared.status.Status.TheVariants.{Done, Usage, BadScript, ReadFault, WriteFault, NoMemory, PortFault, RecordFull}
 use Rattle.midi_host.specs.Wrote.{Wrote, WrotePart}
 use Rattle.midi_host.specs.Ended.{ended_line}
 
@@ -56,6 +56,7 @@ abbrev pub Invites : Status → Invitation → (old new : Outside) → (before a
 Invites Done invitation old new before after = Calls Made invitation old new (Wrote before.written after.written)
 Invites WriteFault invitation old new before after = Calls Made invitation old new (λ line. Breaks line before after)
 Invites PortFault invitation old new before after = IsCutOff invitation old new before after
+Invites RecordFull invitation old new before after = ⊥
 Invites NoMemory invitation old new before after = IsUntouched old new before after
 Invites Usage invitation old new before after = ⊥
 Invites BadScript invitation old new before after = ⊥

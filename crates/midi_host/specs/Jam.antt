@@ -6,7 +6,7 @@ use Rattle.jm_jam.specs.Summary.{summary_text}
 use Rattle.jm_jam.specs.Whole.{jam_config, IsJamTape}
 use Rattle.midi_host.specs.declared.jam_words.JamWords.{JamWords}
 use Rattle.midi_host.specs.declared.status.Status.{Status}
-use Rattle.midi_host.specs.declared.status.Status.TheVariants.{Done, Usage, BadScript, ReadFault, WriteFault, NoMemory, PortFault}
+use Rattle.midi_host.specs.declared.status.Status.TheVariants.{Done, Usage, BadScript, ReadFault, WriteFault, NoMemory, PortFault, RecordFull}
 use Rattle.midi_host.specs.Wrote.{Wrote}
 use Rattle.midi_host.specs.Invite.{Paper, Breaks}
 
@@ -19,6 +19,7 @@ Tells Usage tape before after = ⊥
 Tells BadScript tape before after = ⊥
 Tells ReadFault tape before after = ⊥
 Tells PortFault tape before after = ⊥
+Tells RecordFull tape before after = ⊥
 
 -- the tape is a jam's, unless there was no memory
 abbrev pub Jams : Status → JamWords → List Step → Type 0
@@ -29,6 +30,7 @@ Jams BadScript asked tape = ⊥
 Jams ReadFault asked tape = ⊥
 Jams WriteFault asked tape = IsJamTape asked.seed asked.count tape
 Jams PortFault asked tape = ⊥
+Jams RecordFull asked tape = ⊥
 
 -- the ends of a jam that the words ask for
 pub record EndsJam (status : Status) (asked : JamWords) (tape : List Step) (before after : Paper) : Type 0 where

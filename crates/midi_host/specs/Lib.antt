@@ -22,3 +22,12 @@ pub mod Invite
 pub mod JamWords
 pub mod Jam
 pub mod SessionShown
+pub mod SsrcList
+pub mod ServeOptions
+pub mod ServeParsed
+pub mod ServeWords
+pub mod Counts
+pub mod Attendance
+pub mod ServedLine
+pub mod ServedSession
+pub mod Serve

@@ -16,14 +16,14 @@ const TOLD: &[u8] =
 
 // A call: its worker, and its number among that worker's calls.
 #[derive(Clone, Copy, PartialEq, Eq)]
-struct Call {
-    worker: u8,
-    number: u32,
+pub(super) struct Call {
+    pub(super) worker: u8,
+    pub(super) number: u32,
 }
 
 // Holds one call until another one is answered, for 1,000 times ten milliseconds at most.
 #[derive(Drop)]
-struct Hold {
+pub(super) struct Hold {
     held: Call,
     until: Call,
     // 1 once the other call was answered.
@@ -33,7 +33,7 @@ struct Hold {
 }
 
 impl Hold {
-    fn new(held: Call, until: Call) -> Hold {
+    pub(super) fn new(held: Call, until: Call) -> Hold {
         Hold {
             held,
             until,
@@ -44,7 +44,7 @@ impl Hold {
     }
 
     // Both calls came, and the one that was held didn't give up.
-    fn went_well(&self) -> bool {
+    pub(super) fn went_well(&self) -> bool {
         let came = self.came.load(Ordering::SeqCst);
         let answered = self.answered.load(Ordering::SeqCst) == 1;
         came && answered && !self.gave_up.load(Ordering::SeqCst)

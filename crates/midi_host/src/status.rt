@@ -19,6 +19,8 @@ pub enum Status {
     NoMemory = 6,
     /// A receive failed.
     PortFault = 8,
+    /// The tape of a served session came to have as many steps as it takes.
+    RecordFull = 9,
 }
 
 impl Status {

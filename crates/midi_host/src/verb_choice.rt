@@ -13,6 +13,7 @@ pub fn verb(words: &[Word]) -> Verb
     match words {
         [first, ..] if first.as_bytes() == b"invite".as_slice() => Verb::Invite,
         [first, ..] if first.as_bytes() == b"jam".as_slice() => Verb::Jam,
+        [first, ..] if first.as_bytes() == b"serve".as_slice() => Verb::Serve,
         _ => Verb::Plain,
     }
 }

@@ -9,4 +9,6 @@ pub enum Verb {
     Jam,
     /// `invite`: the one that calls another host.
     Invite,
+    /// `serve`: the one that is a host on the network.
+    Serve,
 }

@@ -2,20 +2,21 @@
 ghost use Rattle.std.specs.Prelude.{◌≡◌, IfOk};
 
 use std::alloc::{AllocError, Global};
+use std::convert::AsStr;
 use std::marker::Model;
 
 /// A word of the command line, seen as its octets.
 #[derive(Drop)]
 pub struct Word {
-    octets: Vec<u8>,
+    text: String,
 }
 
 impl Model for Word {
-    ghost use Rattle.std.specs.Prelude.{ℕ, List};
+    ghost use Rattle.std.specs.Prelude.{ℕ, List, string_bytes};
 
     ghost Value = { List ℕ };
 
-    ghost view = { λ word. word.octets.items };
+    ghost view = { λ word. string_bytes word.text };
 }
 
 impl Word {
@@ -24,7 +25,7 @@ impl Word {
         ensures { IfOk result (λ word. word ≡ text.now) }
     {
         Ok(Word {
-            octets: Vec::from_slice(alloc, text.as_bytes())?,
+            text: String::from_str(alloc, text)?,
         })
     }
 
@@ -32,6 +33,14 @@ impl Word {
     pub fn as_bytes(&self) -> &[u8]
         ensures { result.now ≡ self.now }
     {
-        self.octets.as_slice()
+        self.text.as_bytes()
+    }
+}
+
+impl AsStr for Word {
+    ghost text = { λ word. word };
+
+    fn as_str(&self) -> &str {
+        self.text.as_str()
     }
 }
