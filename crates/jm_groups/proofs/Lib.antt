@@ -1,0 +1,2 @@
+mod Long
+mod Places

@@ -1,0 +1,5 @@
+pub mod Lending
+pub mod Opening
+pub mod Routes
+pub mod Sharing
+pub mod SharingLaws
