@@ -1,14 +1,11 @@
 // What no clause says: that the calls succeed, which address is of which group, and two groups with tapes of their own.
-ghost use Rattle.std.specs.Prelude.{ℕ, ◌≡◌, ◌<◌, [], length, All, IfOk};
-ghost use Rattle.jm_groups.specs.Sharing.{AreOf, IsOpening, IsSplit, HasOut};
+ghost use Rattle.std.specs.Prelude.{◌≡◌, [], All, IfOk};
 
 use apple_msg::Name;
-use jm_book::{Book, Config, Entered};
-use jm_desk::Turned;
+use jm_book::{Book, Config};
 use jm_edge::Addr;
 use jm_groups::*;
 use std::alloc::Global;
-use std::sync::Wait;
 use std::test::*;
 
 // So many books that have taken no step.
@@ -100,35 +97,30 @@ fn the_first_route_that_is_met(rt: HostRuntime) -> Result<(), Fail> {
     Ok(())
 }
 
-// A player enters a group.
-fn enter<R: Wait>(rt: &R, groups: &Groups, passes: &mut Passes, g: usize) -> Result<Entered, Fail>
-    requires own { AreOf groups.now passes.old }
-    requires place { g < length groups.now.desks }
-    ensures own { AreOf groups.now passes.new }
-    ensures opening { All IsOpening passes.old → All IsOpening passes.new }
-    ensures split { All IsSplit passes.old → All IsSplit passes.new }
-    ensures out { All (HasOut 1) passes.old → All (HasOut 1) passes.new }
-{
-    let Turned { answer, .. } = groups.desk(g).enter(rt, passes.pass(g))?;
-    Ok(answer)
+#[test]
+fn two_groups_with_tapes_of_their_own(rt: HostRuntime) -> Result<(), Fail> {
+    let books = books(2, rt.alloc())?;
+    let routes = [ALL].to_vec(rt.alloc())?;
+    let Ok((groups, passes)) = Groups::new(books, routes, rt.alloc()) else {
+        return Err(Fail::new("no groups"));
+    };
+    assert_eq!(rt; groups.count(), 2);
+    assert_eq!(rt; groups.desk(1).ssrc(), 1);
+    let tapes = groups.close(passes);
+    assert_eq!(rt; tapes.len(), 2);
+    assert!(rt; tapes[0].is_empty() && tapes[1].is_empty());
+    Ok(())
 }
 
 #[test]
-fn two_groups_with_tapes_of_their_own(rt: HostRuntime) -> Result<(), Fail> {
+fn passes_for_another_thread(rt: HostRuntime) -> Result<(), Fail> {
     let books = books(2, rt.alloc())?;
     let routes = [ALL].to_vec(rt.alloc())?;
     let Ok((groups, mut passes)) = Groups::new(books, routes, rt.alloc()) else {
         return Err(Fail::new("no groups"));
     };
-    assert_eq!(rt; groups.count(), 2);
-    let mut others = passes.split(&groups)?;
-    assert_eq!(rt; groups.desk(1).ssrc(), 1);
-    assert_eq!(rt; enter(&rt, &groups, &mut passes, 1)?, Entered::Player(0));
-    assert_eq!(rt; enter(&rt, &groups, &mut others, 1)?, Entered::Player(1));
-    assert_eq!(rt; enter(&rt, &groups, &mut others, 0)?, Entered::Player(0));
+    let others = passes.split(&groups)?;
     passes.join(&groups, others);
-    let tapes = groups.close(passes);
-    assert_eq!(rt; tapes.len(), 2);
-    assert!(rt; tapes[0].len() == 1 && tapes[1].len() == 2);
+    assert_eq!(rt; groups.count(), 2);
     Ok(())
 }

@@ -8,7 +8,7 @@ use jm_serve::WorkEnd;
 /// What a served session came to, before anything was told of it.
 #[derive(Clone, Copy, Debug, PartialEq, Eq)]
 pub enum Verdict {
-    /// Both workers made all their rounds, and the tape isn't full.
+    /// No receive failed, no worker was without memory, and the tape isn't full.
     Whole,
     /// The tape has as many steps as it takes.
     Full,
