@@ -33,15 +33,50 @@ fn an_empty_message_is_one(rt: HostRuntime) -> Result<(), Fail> {
     Ok(())
 }
 
+/// So many data octets.
+fn ones(count: usize, alloc: Global) -> Result<Vec<u8>, Fail> {
+    let mut octets = Vec::new(alloc);
+    octets.resize(count, 1)?;
+    Ok(octets)
+}
+
 #[test]
-fn a_message_of_2047_data_octets_is_too_long(rt: HostRuntime) -> Result<(), Fail> {
-    let octets = [1u8; 2047];
-    let made = Sysex::new(&octets, rt.alloc());
+fn a_message_of_65537_data_octets_is_too_long(rt: HostRuntime) -> Result<(), Fail> {
+    let octets = ones(65_537, rt.alloc())?;
+    let made = Sysex::new(octets.as_slice(), rt.alloc());
     let fault = match made {
         Err(ReadError::Fault(fault)) => Some(fault),
         _ => None,
     };
-    assert_eq!(rt; fault, Some(SysexFault::TooLong { len: 2047 }));
+    assert_eq!(rt; fault, Some(SysexFault::TooLong { len: 65_537 }));
+    Ok(())
+}
+
+/// A message of 2,046 data octets fits into a packet, and one of 2,047 is long. So is its command, and no other one is.
+#[test]
+fn messages_are_long_from_2047_on(rt: HostRuntime) -> Result<(), Fail> {
+    let octets = ones(2_047, rt.alloc())?;
+    let whole = Sysex::new(
+        &octets.as_slice()[..octets.len().saturating_sub(1)],
+        rt.alloc(),
+    )?;
+    let long = Sysex::new(octets.as_slice(), rt.alloc())?;
+    assert_eq!(rt; (whole.is_long(), long.is_long()), (false, true));
+    let whole = Command::Sysex(whole);
+    let long = Command::Sysex(long);
+    assert_eq!(rt; (whole.is_long(), long.is_long()), (false, true));
+    assert_eq!(rt; (whole.size(), long.size()), (2_048, 2_049));
+    assert!(rt; !Command::Clock.is_long());
+    Ok(())
+}
+
+#[test]
+fn a_message_is_appended(rt: HostRuntime) -> Result<(), Fail> {
+    let mut message = Sysex::new(&[1, 2], rt.alloc())?;
+    let other = Sysex::new(&[3], rt.alloc())?;
+    assert!(rt; message.len() + other.len() <= Sysex::MOST);
+    message.append(&other)?;
+    assert_eq!(rt; message, Sysex::new(&[1, 2, 3], rt.alloc())?);
     Ok(())
 }
 
@@ -108,26 +143,32 @@ fn octets_are_refused_for_what_they_show(rt: HostRuntime) -> Result<(), Fail> {
     Ok(())
 }
 
-/// A message of 2,046 data octets is one, and with one more it isn't, whatever follows.
+/// F0, so many data octets, and this octet.
+fn message_of(count: usize, last: u8, alloc: Global) -> Result<Vec<u8>, Fail> {
+    let mut octets = Vec::new(alloc);
+    octets.push(0xf0)?;
+    octets.extend_from_slice(ones(count, alloc)?.as_slice())?;
+    octets.push(last)?;
+    Ok(octets)
+}
+
+/// A message of 65,536 data octets is one, and with one more it isn't, whatever follows.
 #[test]
-fn a_message_has_at_most_2046_data_octets(rt: HostRuntime) -> Result<(), Fail> {
-    let mut octets = [1u8; 2049];
-    octets[0] = 0xf0;
-    octets[2047] = 0xf7;
-    let (command, size) = read_command(&octets, rt.alloc())?;
-    assert_eq!(rt; (command.size(), size), (2048, 2048));
-    assert_eq!(rt;
-        fault_of(&octets[..2047], rt.alloc()),
-        Some(CmdFault::Short)
-    );
-    octets[2047] = 0xf4;
-    assert_eq!(rt;
-        fault_of(&octets, rt.alloc()),
-        Some(CmdFault::BadData(2047))
-    );
-    octets[2047] = 1;
-    octets[2048] = 0xf7;
-    assert_eq!(rt; fault_of(&octets, rt.alloc()), Some(CmdFault::TooLong));
+fn a_message_has_at_most_65536_data_octets(rt: HostRuntime) -> Result<(), Fail> {
+    let whole = message_of(65_536, 0xf7, rt.alloc())?;
+    let (command, size) = read_command(whole.as_slice(), rt.alloc())?;
+    assert_eq!(rt; (command.size(), size), (65_538, 65_538));
+    let cases = [
+        (65_535, 1, CmdFault::Short),
+        (65_536, 0xf4, CmdFault::BadData(65_537)),
+        (65_537, 0xf7, CmdFault::TooLong),
+        (65_537, 0xf4, CmdFault::TooLong),
+        (65_536, 1, CmdFault::TooLong),
+    ];
+    for (count, last, fault) in cases {
+        let octets = message_of(count, last, rt.alloc())?;
+        assert_eq!(rt; fault_of(octets.as_slice(), rt.alloc()), Some(fault));
+    }
     Ok(())
 }
 

@@ -41,7 +41,7 @@ fn said(item: &Item) -> (u32, u8, usize) {
                 PartKind::Last => 3,
                 PartKind::Cancel => 4,
             };
-            (item.delta, code, *octets)
+            (item.delta, code, octets.len())
         }
         What::Passed(octet) => (item.delta, *octet, 0),
     }
@@ -129,7 +129,25 @@ fn segments(rt: HostRuntime) -> Result<(), Fail> {
     Ok(())
 }
 
-/// A message of 2,046 data octets is a command, and one of 2,047 is passed over. LEN has two octets.
+/// The data octets of segments, and a list in which segments and commands are written.
+#[test]
+#[tactic(auto, unfolding(jm_section::specs::Section::item_text, jm_section::specs::Section::what_text))]
+fn segments_are_written(rt: HostRuntime) -> Result<(), Fail> {
+    let kinds: [(PartKind, &[u8]); 3] = [
+        (PartKind::First, &[0xf0, 1, 2, 0xf0]),
+        (PartKind::Middle, &[0xf7, 1, 2, 0xf0]),
+        (PartKind::Last, &[0xf7, 1, 2, 0xf7]),
+    ];
+    for (kind, text) in kinds {
+        let mut out = Octets::with_room(4, rt.alloc())?;
+        assert!(rt; segment_len(kind, &[1, 2]) <= out.spare());
+        write_segment(kind, &[1, 2], &mut out);
+        assert_eq!(rt; out.as_slice(), text);
+    }
+    Ok(())
+}
+
+/// Messages of 2,046 and of 2,047 data octets are commands. LEN has two octets.
 #[test]
 fn long_messages(rt: HostRuntime) -> Result<(), Fail> {
     let mut octets = [1u8; 2051];
@@ -143,7 +161,7 @@ fn long_messages(rt: HostRuntime) -> Result<(), Fail> {
     octets[2049] = 1;
     octets[2050] = 0xf7;
     let found = entries_of(&octets, rt.alloc())?;
-    assert_eq!(rt; found.as_slice(), [(0, 0xf0, 0)].as_slice());
+    assert_eq!(rt; found.as_slice(), [(0, 0xf0, 2049)].as_slice());
     Ok(())
 }
 
@@ -184,8 +202,9 @@ fn faults(rt: HostRuntime) {
 /// Faults of commands, each with the place of the command and the place inside it.
 #[test]
 fn faults_of_commands(rt: HostRuntime) {
-    let cases: [(&[u8], usize, CmdFault); 5] = [
+    let cases: [(&[u8], usize, CmdFault); 6] = [
         (&[0x03, 0xf0, 0x80, 0xf7], 1, CmdFault::BadData(1)),
+        (&[0x04, 0xf7, 1, 0xf8, 0xf7], 1, CmdFault::BadData(2)),
         (&[0x03, 0xf0, 1, 2], 1, CmdFault::Short),
         (&[0x03, 0x92, 60, 0x80], 1, CmdFault::BadData(2)),
         (&[0x05, 0x92, 64, 100, 0, 0xc1], 5, CmdFault::Short),

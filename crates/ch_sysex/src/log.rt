@@ -52,7 +52,7 @@ pub(crate) fn write_event(event: SysexEvent, s: u8, count: usize, octets: &[u8],
 pub(crate) fn event_len(event: SysexEvent, octets: &[u8]) -> usize
     requires { IsSysex octets.now }
     ensures number { result ≡ event_len event octets.now }
-    ensures bound { result ≤ 2048 }
+    ensures bound { result ≤ 65538 }
 {
     match event {
         SysexEvent::Kept | SysexEvent::ResetMessage => 2 + octets.len(),

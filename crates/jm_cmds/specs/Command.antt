@@ -1,8 +1,8 @@
 -- Commands and their octets (RFC 6295, Appendix E, Figures E.1 and E.2).
-use Rattle.std.specs.Prelude.{ℕ, ◌+◌, ◌/◌, ◌%◌, ◌<◌, List, [], ◌∷◌, ◌++◌, slice_index}
+use Rattle.std.specs.Prelude.{ℕ, Bool, false, ◌+◌, ◌/◌, ◌%◌, ◌<◌, List, [], ◌∷◌, ◌++◌, slice_index}
 use Rattle.jm_cmds.specs.declared.commands.Command.{Command}
 use Rattle.jm_cmds.specs.declared.commands.Command.TheVariants.{NoteOff, NoteOn, PolyPressure, Control, Program, Pressure, Wheel, QuarterFrame, SongPosition, SongSelect, TuneRequest, Clock, Start, Continue, Stop, ActiveSensing, SystemReset, Sysex}
-use Rattle.jm_cmds.specs.Data.{IsSysex}
+use Rattle.jm_cmds.specs.Data.{IsSysex, is_long_message}
 
 -- the one spelling of a command
 abbrev pub spelling : Command → List ℕ
@@ -28,6 +28,11 @@ spelling (Sysex octets) = 0xf0 ∷ (octets ++ 0xf7 ∷ [])
 -- the octet by which a command begins
 abbrev pub status_of : Command → ℕ
 status_of command = slice_index (spelling command) 0
+
+-- A long command, which no packet holds whole, is a System Exclusive message that is long.
+abbrev pub is_long : Command → Bool
+is_long (Sysex octets) = is_long_message octets
+is_long _ = false
 
 -- the channel of a channel command is within its bound
 abbrev pub HasChannel : Command → Type 0

@@ -32,7 +32,7 @@ message_read-whole octets rest h =
     let l : length (octets ++ 0xf7 ∷ rest) ≡ length octets + (length rest + 1) = grind (arith, length-append, add-one) in
     let some : eqb (length octets) (length (octets ++ 0xf7 ∷ rest)) ≡ false = ne_eqb (length octets) (length (octets ++ 0xf7 ∷ rest)) (λ e. omega arith) in
     let stop : get_or (octets ++ 0xf7 ∷ rest) (length octets) 0 ≡ 0xf7 = get_or-append_seam octets rest in
-    rw (n, le-ltb 2046 (length octets) h.few, some, stop, take-append_seam octets (0xf7 ∷ rest)) refl
+    rw (n, le-ltb 65536 (length octets) h.few, some, stop, take-append_seam octets (0xf7 ∷ rest)) refl
   where
     get_or-append_seam : (xs ys : List ℕ) → get_or (xs ++ 0xf7 ∷ ys) (length xs) 0 ≡ 0xf7
     get_or-append_seam [] ys = refl
@@ -225,14 +225,14 @@ begins_message : (rest : List ℕ) (command : Command) (size : ℕ) → message_
 begins_message rest command size e =
     let n = data_len rest in
     let most : n ≤ length rest = prefix_len-le-length is_data rest in
-    elim (cases_Bool (ltb 2046 n)) [
+    elim (cases_Bool (ltb 65536 n)) [
       | inl t ↦ absurd (not_refused TooLong (command, size) (rw t at e))
       | inr few ↦ elim (cases_Bool (eqb n (length rest))) [
         | inl t ↦ absurd (not_refused Short (command, size) (rw (few, t) at e))
         | inr some ↦ elim (cases_Bool (eqb (get_or rest n 0) 0xf7)) [
           | inl stop ↦
               let inside : n < length rest = (let apart : n ≡ length rest → ⊥ = eqb-false n (length rest) some in omega arith) in
-              let is_sysex = IsSysex-front rest n refl most (ltb-false 2046 n few) in
+              let is_sysex = IsSysex-front rest n refl most (ltb-false 65536 n few) in
               let front = length-take-le n rest most in
               let whole : n + 2 ≡ length (spelling (Sysex (take n rest))) = grind (arith, length-append, add-one) in
               subst (λ (r : Command × ℕ). BeginsWith (0xf0 ∷ rest) r.0 r.1) (same_read (Sysex (take n rest), n + 2) (command, size) (rw (few, some, stop) at e))

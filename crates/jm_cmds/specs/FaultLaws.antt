@@ -29,9 +29,9 @@ data_count status =
     (cond (eqb status 0xf1 || eqb status 0xf3) 1 0)))
 
 -- Whether the command that this status octet and so many data octets begin has further octets. A System Exclusive message of
--- 2,046 data octets has still its F7.
+-- 65,536 data octets has still its F7.
 abbrev pub is_due : (status count : ℕ) → Bool
-is_due status count = cond (eqb status 0xf0) (leb count 2046) (ltb count (data_count status))
+is_due status count = cond (eqb status 0xf0) (leb count 65536) (ltb count (data_count status))
 
 -- A data octet stands where a command begins.
 pub record BeginsWithData (octets : List ℕ) : Type 0 where
@@ -62,11 +62,11 @@ pub record IsBroken (octets : List ℕ) (place : ℕ) : Type 0 where
   pub high : is_data bad ≡ false
   pub no_end : status ≡ 0xf0 → bad ≡ 0xf7 → ⊥
 
--- A System Exclusive message has over 2,046 data octets.
+-- A System Exclusive message has over 65,536 data octets.
 pub record RunsOver (octets : List ℕ) : Type 0 where
   pub rest : List ℕ
   pub split : octets ≡ 0xf0 ∷ rest
-  pub many : 2046 < data_len rest
+  pub many : 65536 < data_len rest
 
 -- The octets end where a command that began has further ones, and all behind its status octet are data octets.
 pub record EndsEarly (octets : List ℕ) : Type 0 where
@@ -222,14 +222,14 @@ unfolding got refused
 message_shows rest fault e =
     let n = data_len rest in
     let most : n ≤ length rest = prefix_len-le-length is_data rest in
-    elim (cases_Bool (ltb 2046 n)) [
-      | inl t ↦ told (0xf0 ∷ rest) TooLong fault (rw t at e) (record { rest = rest; split = refl; many = ltb-true 2046 n t })
+    elim (cases_Bool (ltb 65536 n)) [
+      | inl t ↦ told (0xf0 ∷ rest) TooLong fault (rw t at e) (record { rest = rest; split = refl; many = ltb-true 65536 n t })
       | inr few ↦ elim (cases_Bool (eqb n (length rest))) [
         | inl t ↦
             let all : n ≡ length rest = eqb-true n (length rest) t in
-            let short = ltb-false 2046 n few in
+            let short = ltb-false 65536 n few in
             told (0xf0 ∷ rest) Short fault (rw (few, t) at e)
-            (record { status = 0xf0; between = rest; split = refl; begins = refl; all_data = IsData-whole rest (omega (arith, all)) most; due = le-leb (length rest) 2046 (omega (arith, all, short)) })
+            (record { status = 0xf0; between = rest; split = refl; begins = refl; all_data = IsData-whole rest (omega (arith, all)) most; due = le-leb (length rest) 65536 (omega (arith, all, short)) })
         | inr some ↦ elim (cases_Bool (eqb (get_or rest n 0) 0xf7)) [
           | inl stop ↦ absurd (none_refused (Sysex (take n rest), n + 2) fault (rw (few, some, stop) at e))
           | inr f ↦
@@ -245,7 +245,7 @@ message_shows rest fault e =
                 place_is = rw front refl;
                 begins = refl;
                 all_data = IsData-front rest;
-                due = rw front (le-leb n 2046 (ltb-false 2046 n few));
+                due = rw front (le-leb n 65536 (ltb-false 65536 n few));
                 high = prefix_len_stops is_data rest 0 inside;
                 no_end = λ s b. eqb-false (get_or rest n 0) 0xf7 f b;
               })

@@ -24,5 +24,6 @@ pub mod ParamLaws
 pub mod Selection
 pub mod Pedal
 pub mod CommandLaws
+pub mod LongLaws
 pub mod FaultLaws
 pub mod Laws

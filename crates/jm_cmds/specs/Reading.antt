@@ -59,7 +59,7 @@ system_read status rest =
 -- one must be F7.
 abbrev pub message_read : List ℕ → Result (Command × ℕ) CmdFault
 message_read rest =
-    if nat_lt 2046 (data_len rest) then Err TooLong
+    if nat_lt 65536 (data_len rest) then Err TooLong
     else (if data_len rest == length rest then Err Short
     else (if slice_index rest (data_len rest) == 0xf7 then Ok (Sysex (take (data_len rest) rest), data_len rest + 2)
     else Err (BadData (data_len rest + 1))))

@@ -8,7 +8,7 @@ use Rattle.jm_cmds.specs.Data.{data_len}
 abbrev pub sysex_made : List ℕ → Result (List ℕ) SysexFault
 sysex_made octets =
     if nat_lt (data_len octets) (length octets) then Err (BadData (data_len octets))
-    else (if nat_lt 2046 (length octets) then Err (TooLong (length octets)) else Ok octets)
+    else (if nat_lt 65536 (length octets) then Err (TooLong (length octets)) else Ok octets)
 
 -- The data octets that are told by the low seven bits of octets. In Chapter X the high bit marks the last one.
 abbrev pub unmarked : List ℕ → List ℕ

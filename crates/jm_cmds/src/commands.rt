@@ -1,7 +1,7 @@
 //! The commands of MIDI 1.0.
 
-ghost use Rattle.std.specs.Prelude.{◌≡◌, ◌≤◌, length, IfOk};
-ghost use Rattle.jm_cmds.specs.Command.{spelling, status_of, HasChannel, IsCommand, IsOfNote, IsOfChannel};
+ghost use Rattle.std.specs.Prelude.{◌≡◌, ◌≤◌, length, false, IfOk};
+ghost use Rattle.jm_cmds.specs.Command.{spelling, status_of, is_long, HasChannel, IsCommand, IsOfNote, IsOfChannel};
 ghost use Rattle.jm_cmds.specs.Spelled.{octets_of, octets_behind};
 
 use crate::numbers::{Channel, D7, D14};
@@ -188,11 +188,23 @@ impl Command {
         self.data().with_status(self.status())
     }
 
-    /// The number of the command's octets, from 1 to 2,048.
+    /// Whether no packet holds the command whole, so that it is sent in segments: it is a System Exclusive message of over
+    /// 2,046 data octets.
+    pub fn is_long(&self) -> bool
+        ensures { result ≡ is_long self.now }
+    {
+        match self {
+            Command::Sysex(message) => message.is_long(),
+            _ => false,
+        }
+    }
+
+    /// The number of the command's octets, from 1 to 65,538, and at most 2,048 where it isn't long.
     pub fn size(&self) -> usize
         ensures number { result ≡ length (spelling self.now) }
         ensures least { 1 ≤ result }
-        ensures most { result ≤ 2048 }
+        ensures most { result ≤ 65538 }
+        ensures whole { is_long self.now ≡ false → result ≤ 2048 }
         ensures command { IsCommand self.now }
     {
         match self.spelled() {

@@ -37,4 +37,4 @@ pub use selection::{ParamCommand, Selection, param_command};
 pub use sequencing::{
     SequencerEvent, SequencerPart, sequencer_after, sequencer_event, sequencer_step,
 };
-pub use system_exclusive::{LONGEST_KEPT, Sysex, SysexFault, data_len};
+pub use system_exclusive::{LONGEST_KEPT, LONGEST_WHOLE, Sysex, SysexFault, data_len};

@@ -26,7 +26,7 @@ pub enum CmdFault {
     /// The octet at this place, counted from the status octet as 0, must be data and is over 0x7F.
     #[error("octet {0} is no data octet")]
     BadData(usize),
-    /// A System Exclusive message has a 2,047th data octet.
+    /// A System Exclusive message has a 65,537th data octet.
     #[error("a System Exclusive message that is too long")]
     TooLong,
     /// The octets end inside the command.

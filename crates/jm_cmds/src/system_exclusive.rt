@@ -1,7 +1,7 @@
 //! System Exclusive messages.
 
-ghost use Rattle.std.specs.Prelude.{◌≡◌, ◌==◌, ◌≤◌, length, IfOk};
-ghost use Rattle.jm_cmds.specs.Data.{IsSysex, data_len, is_kept_message};
+ghost use Rattle.std.specs.Prelude.{◌≡◌, ◌==◌, ◌≤◌, ◌+◌, ◌++◌, length, is_ok, if◌then◌else◌, IfOk};
+ghost use Rattle.jm_cmds.specs.Data.{IsSysex, data_len, is_kept_message, is_long_message};
 ghost use Rattle.jm_cmds.specs.SysexMade.{sysex_made, unmarked};
 ghost use Rattle.jm_cmds.specs.Gives.{Gives, WantsForGood};
 
@@ -29,7 +29,7 @@ pub enum SysexFault {
     /// The octet at this place, counted from 0, is over 0x7F. It is the first such octet.
     #[error("octet {0} is no data octet")]
     BadData(usize),
-    /// There are more than 2,046 octets, all of them data octets.
+    /// There are more than 65,536 octets, all of them data octets.
     #[error("{len} data octets are too many")]
     TooLong { len: usize },
 }
@@ -38,7 +38,11 @@ pub enum SysexFault {
 /// which is this project's own bound.
 pub const LONGEST_KEPT: usize = 254;
 
-/// A whole System Exclusive message (RFC 6295, Appendix E): at most 2,046 data octets, without the F0
+/// The most data octets of a System Exclusive message that one packet holds whole, and of a segment of a longer one, which
+/// is sent as segments in successive packets (RFC 6295, section 3.2). The number is this project's own.
+pub const LONGEST_WHOLE: usize = 2_046;
+
+/// A whole System Exclusive message (RFC 6295, Appendix E): at most 65,536 data octets, without the F0
 /// before them and the F7 behind.
 #[derive(Debug, Drop)]
 pub struct Sysex {
@@ -58,10 +62,10 @@ impl Model for Sysex {
 
 impl Sysex {
     /// The most data octets that a message has.
-    pub const MOST: usize = 2046;
+    pub const MOST: usize = 65_536;
 
     /// A message of these data octets. It is `BadData` at the first octet over 0x7F, else `TooLong`
-    /// exactly where there are over 2,046 of them.
+    /// exactly where there are over 65,536 of them.
     #[tactic(auto, using(crate::specs::DataLaws::on_data))]
     pub fn new(octets: &[u8], alloc: Global) -> Result<Sysex, ReadError<SysexFault>>
         ensures answer { Gives result (sysex_made octets.now) }
@@ -80,7 +84,7 @@ impl Sysex {
     }
 
     /// A message of octets that are known to be one.
-    pub(crate) fn of(octets: &[u8], alloc: Global) -> Result<Sysex, AllocError>
+    pub fn of(octets: &[u8], alloc: Global) -> Result<Sysex, AllocError>
         requires { IsSysex octets.now }
         ensures { IfOk result (λ message. message ≡ octets.now) }
     {
@@ -89,10 +93,10 @@ impl Sysex {
         })
     }
 
-    /// A message of the low seven bits of each of these octets, at most 2,046. A list of data octets whose last one
+    /// A message of the low seven bits of each of these octets, at most 65,536. A list of data octets whose last one
     /// is marked by its high bit (RFC 6295, B.5.1) gives its message.
     pub fn of_marked(octets: &[u8], alloc: Global) -> Result<Sysex, AllocError>
-        requires { length octets.now ≤ 2046 }
+        requires { length octets.now ≤ 65536 }
         ensures { IfOk result (λ message. message ≡ unmarked octets.now) }
     {
         Ok(Sysex {
@@ -108,10 +112,10 @@ impl Sysex {
         self.octets.as_slice()
     }
 
-    /// The number of data octets, from 0 to 2,046.
+    /// The number of data octets, from 0 to 65,536.
     pub fn len(&self) -> usize
         ensures number { result ≡ length self.now }
-        ensures bound { result ≤ 2046 }
+        ensures bound { result ≤ 65536 }
     {
         self.octets.len()
     }
@@ -123,11 +127,27 @@ impl Sysex {
         self.octets.len() <= LONGEST_KEPT
     }
 
+    /// Whether it is too long for one packet, and so is sent in segments: it has over 2,046 data octets.
+    pub fn is_long(&self) -> bool
+        ensures { result ≡ is_long_message self.now }
+    {
+        self.octets.len() > LONGEST_WHOLE
+    }
+
     /// Whether there is no data octet.
     pub fn is_empty(&self) -> bool
         ensures { result ≡ (length self.now == 0) }
     {
         self.octets.is_empty()
+    }
+
+    /// Appends the data octets of another message behind its own. Where memory is refused, it stays as it was.
+    #[tactic(auto, using(crate::specs::DataLaws::joined_message))]
+    pub fn append(&mut self, other: &Sysex) -> Result<(), AllocError>
+        requires { length self.old + length other.now ≤ 65536 }
+        ensures { self.new ≡ (if is_ok result then self.old ++ other.now else self.old) }
+    {
+        self.octets.extend_from_slice(other.as_slice())
     }
 
     /// A message of the same data octets.

@@ -1,7 +1,7 @@
 -- What is read is spelled by the grammar.
 use Rattle.std.proofs.Common.{◌≡◌, ℕ, suc, ◌-◌, ◌+◌, ◌≤◌, ◌<◌, false, eqb, ltb, List, [], ◌∷◌, ◌++◌, drop, take, get_or, length, Option, Some, None, Result, Ok, Err, refl, sym, ap, subst, ◌∙◌, append_assoc, length-append, add-one, arith, inl, inr, drop-cons, length-drop}
 use Rattle.std.specs.Prelude.{IsTrue}
-use Rattle.std.proofs.lemmas.Bool.{ltb-true, eqb-true, eqb-false, cases_Bool}
+use Rattle.std.proofs.lemmas.Bool.{eqb-true, eqb-false, cases_Bool}
 use Rattle.std.proofs.lemmas.List.{take-append-drop, length-take-le}
 use Rattle.std.proofs.lemmas.List.Sums.{prefix_len-le-length}
 use Rattle.jm_cmds.specs.declared.commands.Command.{Command}
@@ -19,7 +19,7 @@ use Rattle.jm_section.specs.declared.item.PartKind.{PartKind}
 use Rattle.jm_section.specs.declared.item.PartKind.TheVariants.{First, Middle, Last, Cancel}
 use Rattle.jm_section.specs.declared.reading.SectionFault.{SectionFault}
 use Rattle.jm_section.specs.declared.reading.SectionFault.TheVariants.{NoStatus, BadCommand}
-use Rattle.jm_section.specs.Grammar.{is_passed, IsSegment, first_part, middle_part, last_part, cancel_first, cancel_other, SpellsWhat, with_status, without_status, passed, passed_long, segment}
+use Rattle.jm_section.specs.Grammar.{is_passed, IsSegment, first_part, middle_part, last_part, cancel_first, cancel_other, SpellsWhat, with_status, without_status, passed, segment}
 use Rattle.jm_section.specs.Reading.{whole, one_less, under_running, exclusive_read, what_read}
 
 abbrev got : What × ℕ → Result (What × ℕ) SectionFault
@@ -161,28 +161,15 @@ ended_len : (first last : ℕ) (octets : List ℕ) (n : ℕ) → length octets �
 ended_len first last octets n e = grind (arith, length-append, add-one)
 
 segment_found : (kind : PartKind) (running : Option ℕ) (first last : ℕ) (rest : List ℕ) → IsEnded first rest → last ≡ get_or rest (data_len rest) 0 → IsSegment kind first last
-    → ReadsWhat running (first ∷ rest) (Part kind (data_len rest)) (data_len rest + 2)
+    → ReadsWhat running (first ∷ rest) (Part kind (take (data_len rest) rest)) (data_len rest + 2)
 segment_found kind running first last rest ended e s =
     let octets = take (data_len rest) rest in
     record {
       text = first ∷ (octets ++ last ∷ []);
       rest = drop (suc (data_len rest)) rest;
       split = rw e ended.split;
-      spelled = subst (λ (n : ℕ). SpellsWhat running (first ∷ (octets ++ last ∷ [])) (Part kind n)) ended.count (segment kind first last octets s ended.data_octets);
+      spelled = segment kind first last octets s ended.data_octets;
       used_is = ended_len first last octets (data_len rest) ended.count;
-      some = omega arith;
-    }
-
-long_found : (running : Option ℕ) (rest : List ℕ) → IsEnded 0xf0 rest → 0xf7 ≡ get_or rest (data_len rest) 0 → 2046 < data_len rest
-    → ReadsWhat running (0xf0 ∷ rest) (Passed 0xf0) (data_len rest + 2)
-long_found running rest ended e long =
-    let octets = take (data_len rest) rest in
-    record {
-      text = 0xf0 ∷ (octets ++ 0xf7 ∷ []);
-      rest = drop (suc (data_len rest)) rest;
-      split = rw e ended.split;
-      spelled = passed_long octets ended.data_octets (omega (arith, ended.count));
-      used_is = ended_len 0xf0 0xf7 octets (data_len rest) ended.count;
       some = omega arith;
     }
 
@@ -200,18 +187,13 @@ begins_f0 place running rest what used h =
       | inr some ↦ elim (cases_Bool (eqb last 0xf4)) [
         | inl t ↦
             let is : 0xf4 ≡ last = sym (eqb-true last 0xf4 t) in
-            at_item running (0xf0 ∷ rest) (Part Cancel n) what (n + 2) used (segment_found Cancel running 0xf0 0xf4 rest (is_ended 0xf0 rest some) is cancel_first) (rw (some, t) at h)
+            at_item running (0xf0 ∷ rest) (Part Cancel (take n rest)) what (n + 2) used (segment_found Cancel running 0xf0 0xf4 rest (is_ended 0xf0 rest some) is cancel_first) (rw (some, t) at h)
         | inr f4 ↦ elim (cases_Bool (eqb last 0xf0)) [
           | inl t ↦
               let is : 0xf0 ≡ last = sym (eqb-true last 0xf0 t) in
-              at_item running (0xf0 ∷ rest) (Part First n) what (n + 2) used (segment_found First running 0xf0 0xf0 rest (is_ended 0xf0 rest some) is first_part) (rw (some, f4, t) at h)
+              at_item running (0xf0 ∷ rest) (Part First (take n rest)) what (n + 2) used (segment_found First running 0xf0 0xf0 rest (is_ended 0xf0 rest some) is first_part) (rw (some, f4, t) at h)
           | inr f0 ↦ elim (cases_Bool (eqb last 0xf7)) [
-            | inl t ↦ elim (cases_Bool (ltb 2046 n)) [
-              | inl long ↦
-                  let is : 0xf7 ≡ last = sym (eqb-true last 0xf7 t) in
-                  at_item running (0xf0 ∷ rest) (Passed 0xf0) what (n + 2) used (long_found running rest (is_ended 0xf0 rest some) is (ltb-true 2046 n long)) (rw (some, f4, f0, t, long) at h)
-              | inr few ↦ whole_found place running (0xf0 ∷ rest) what used (command_read (0xf0 ∷ rest)) refl (rw (some, f4, f0, t, few) at h)
-            ]
+            | inl t ↦ whole_found place running (0xf0 ∷ rest) what used (command_read (0xf0 ∷ rest)) refl (rw (some, f4, f0, t) at h)
             | inr f7 ↦ not_refused (BadCommand place (commands.BadData (n + 1))) (what, used) (rw (some, f4, f0, f7) at h)
           ]
         ]
@@ -227,15 +209,15 @@ begins_f7 place running rest what used h =
       | inr some ↦ elim (cases_Bool (eqb last 0xf4)) [
         | inl t ↦
             let is : 0xf4 ≡ last = sym (eqb-true last 0xf4 t) in
-            at_item running (0xf7 ∷ rest) (Part Cancel n) what (n + 2) used (segment_found Cancel running 0xf7 0xf4 rest (is_ended 0xf7 rest some) is cancel_other) (rw (some, t) at h)
+            at_item running (0xf7 ∷ rest) (Part Cancel (take n rest)) what (n + 2) used (segment_found Cancel running 0xf7 0xf4 rest (is_ended 0xf7 rest some) is cancel_other) (rw (some, t) at h)
         | inr f4 ↦ elim (cases_Bool (eqb last 0xf0)) [
           | inl t ↦
               let is : 0xf0 ≡ last = sym (eqb-true last 0xf0 t) in
-              at_item running (0xf7 ∷ rest) (Part Middle n) what (n + 2) used (segment_found Middle running 0xf7 0xf0 rest (is_ended 0xf7 rest some) is middle_part) (rw (some, f4, t) at h)
+              at_item running (0xf7 ∷ rest) (Part Middle (take n rest)) what (n + 2) used (segment_found Middle running 0xf7 0xf0 rest (is_ended 0xf7 rest some) is middle_part) (rw (some, f4, t) at h)
           | inr f0 ↦ elim (cases_Bool (eqb last 0xf7)) [
             | inl t ↦
                 let is : 0xf7 ≡ last = sym (eqb-true last 0xf7 t) in
-                at_item running (0xf7 ∷ rest) (Part Last n) what (n + 2) used (segment_found Last running 0xf7 0xf7 rest (is_ended 0xf7 rest some) is last_part) (rw (some, f4, f0, t) at h)
+                at_item running (0xf7 ∷ rest) (Part Last (take n rest)) what (n + 2) used (segment_found Last running 0xf7 0xf7 rest (is_ended 0xf7 rest some) is last_part) (rw (some, f4, f0, t) at h)
             | inr f7 ↦ not_refused (BadCommand place (commands.BadData (n + 1))) (what, used) (rw (some, f4, f0, f7) at h)
           ]
         ]

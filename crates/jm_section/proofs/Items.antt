@@ -10,7 +10,7 @@ use Rattle.jm_wire.specs.DeltaReading.{field_is_read, read_as}
 use Rattle.jm_section.specs.declared.item.Item.{Item}
 use Rattle.jm_section.specs.declared.item.What.{What}
 use Rattle.jm_section.specs.declared.reading.SectionFault.{SectionFault}
-use Rattle.jm_section.specs.Grammar.{SpellsWhat, with_status, without_status, passed, passed_long, segment, SpellsDelta, no_field, field}
+use Rattle.jm_section.specs.Grammar.{SpellsWhat, with_status, without_status, passed, segment, SpellsDelta, no_field, field}
 use Rattle.jm_wire.specs.Readers.{◌>>=◌}
 use Rattle.jm_section.specs.Reading.{what_read, field_read, delta_read, item_read}
 use Rattle.jm_section.proofs.Spelled.{what_spelled}
@@ -23,7 +23,6 @@ what_some running text what (with_status command h) = some_octet command
 what_some running text what (without_status command h lt e) =
     omega (arith, (channel_short command h lt).some, length-drop 1 (spelling command))
 what_some running text what (passed octet h) = omega arith
-what_some running text what (passed_long octets h long) = omega arith
 what_some running text what (segment kind first last octets s h) = omega arith
 
 pub delta_spelled : (place : ℕ) (has : Bool) (lead : List ℕ) (delta : ℕ) (rest : List ℕ) → SpellsDelta has lead delta → delta_read place (not has) (lead ++ rest) ≡ Ok (delta, length lead)

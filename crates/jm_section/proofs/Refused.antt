@@ -5,7 +5,9 @@ use Rattle.std.specs.List.{list_all}
 use Rattle.std.proofs.lemmas.Bool.{lt-ltb, le-ltb, eq-eqb, ne_eqb, cases_Bool, cases_lt, and_parts}
 use Rattle.std.proofs.lemmas.List.{nil_from_length, take-append-drop, length-take-le}
 use Rattle.jm_cmds.specs.declared.reading.CmdFault.{CmdFault}
+use Rattle.jm_cmds.specs.declared.reading.CmdFault.TheVariants as commands
 use Rattle.jm_cmds.specs.Data.{is_data, IsData, data_len}
+use Rattle.jm_cmds.specs.Reading.{after_status, command_read}
 use Rattle.jm_wire.specs.declared.delta.DeltaFault.{DeltaFault}
 use Rattle.jm_wire.specs.Delta.{delta_at, IsField}
 use Rattle.jm_wire.specs.DeltaReading.{read_as}
@@ -16,9 +18,9 @@ use Rattle.jm_section.specs.declared.reading.SectionFault.{SectionFault}
 use Rattle.jm_section.specs.declared.reading.SectionFault.TheVariants.{Short, NoStatus, BadCommand, BadDelta}
 use Rattle.jm_section.specs.Grammar.{SpellsDelta, Read}
 use Rattle.jm_wire.specs.Readers.{◌>>=◌}
-use Rattle.jm_section.specs.Reading.{what_read, field_read, item_read, items_read, head_read, section_read}
-use Rattle.jm_section.specs.Faults.{IsExclusive, IsBadCommand, unended, ended_badly, of_status, under_status, StandsAt, IsShort, IsFault, is_short, bad_delta, no_status, bad_command}
-use Rattle.jm_section.proofs.Spelled.{exclusive_begins, ended, running_begins}
+use Rattle.jm_section.specs.Reading.{whole, what_read, field_read, item_read, items_read, head_read, section_read}
+use Rattle.jm_section.specs.Faults.{IsExclusive, IsBadCommand, unended, ended_badly, overlong, of_status, under_status, StandsAt, IsShort, IsFault, is_short, bad_delta, no_status, bad_command}
+use Rattle.jm_section.proofs.Spelled.{data_len-stops, exclusive_begins, ended, running_begins}
 use Rattle.jm_section.proofs.Items.{delta_spelled, behind_delta, item_read-some}
 use Rattle.jm_section.proofs.Lists.{items_few, resumes}
 use Rattle.jm_section.proofs.Sections.{HeadFound, head_spelled, head_found, drop_front}
@@ -43,6 +45,11 @@ data_len-all (octet ∷ octets) h =
 not_exclusive : (first : ℕ) → (IsExclusive first → ⊥) → (eqb first 240 ≡ false) × (eqb first 247 ≡ false)
 not_exclusive first h = (ne_eqb first 240 (λ e. h (inl e)), ne_eqb first 247 (λ e. h (inr e)))
 
+-- a message of too many data octets
+too_long : (octets more : List ℕ) → IsData octets → 65536 < length octets → command_read (0xf0 ∷ (octets ++ 0xf7 ∷ more)) ≡ Err commands.TooLong
+unfolding command_read after_status
+too_long octets more h long = rw (data_len-stops octets more 0xf7 h (omega arith), lt-ltb 65536 (length octets) long) refl
+
 command_refused : (place : ℕ) (running : Option ℕ) (text : List ℕ) (fault : CmdFault) → IsBadCommand running text fault → what_read place running text ≡ refused (BadCommand place fault)
 unfolding what_read
 command_refused place running text fault (unended first octets x h) =
@@ -50,6 +57,8 @@ command_refused place running text fault (unended first octets x h) =
 command_refused place running text fault (ended_badly first last octets more x h high e) =
     ended place running first last octets more x h high
     ∙ rw (ne_eqb last 244 (λ d. e (inr (inr d))), ne_eqb last 240 (λ d. e (inl d)), ne_eqb last 247 (λ d. e (inr (inl d)))) refl
+command_refused place running text fault (overlong octets more h long) =
+    ended place running 0xf0 0xf7 octets more (inl refl) h (omega arith) ∙ ap (whole place) (too_long octets more h long)
 command_refused place running text fault (of_status first octets f high x p e) =
     let n = not_exclusive first x in
     rw (le-ltb first 128 high, n.0, n.1, p, e) refl
@@ -60,6 +69,7 @@ command_refused place running text fault (under_status status first octets f low
 some_text : (running : Option ℕ) (text : List ℕ) (fault : CmdFault) → IsBadCommand running text fault → 1 ≤ length text
 some_text running text fault (unended first octets x h) = omega arith
 some_text running text fault (ended_badly first last octets more x h high e) = omega arith
+some_text running text fault (overlong octets more h long) = omega arith
 some_text running text fault (of_status first octets f high x p e) = omega arith
 some_text running text fault (under_status status first octets f low r e) = omega arith
 

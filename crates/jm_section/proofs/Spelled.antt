@@ -2,6 +2,7 @@
 use Rattle.std.proofs.Common.{◌≡◌, ℕ, ◌+◌, ◌≤◌, ◌<◌, false, eqb, List, [], ◌∷◌, ◌++◌, drop, take, get_or, length, Option, Some, Result, Ok, refl, ap, ◌∙◌, append_assoc, length-append, add-one, add_comm, arith, inl, inr}
 use Rattle.std.proofs.lemmas.Bool.{lt-ltb, le-ltb, eqb-true, ne_eqb, cases_Bool, and_parts}
 use Rattle.std.specs.List.{list_all}
+use Rattle.std.proofs.Math.Seq.{take-append_seam}
 use Rattle.std.specs.Prelude.{IsTrue, ◌⊎◌}
 use Rattle.jm_cmds.specs.declared.commands.Command.{Command}
 use Rattle.jm_cmds.specs.declared.commands.Command.TheVariants.{NoteOff, NoteOn, PolyPressure, Control, Program, Pressure, Wheel, QuarterFrame, SongPosition, SongSelect, TuneRequest, Clock, Start, Continue, Stop, ActiveSensing, SystemReset, Sysex}
@@ -14,7 +15,7 @@ use Rattle.jm_section.specs.declared.item.What.TheVariants.{Whole, Part, Passed}
 use Rattle.jm_section.specs.declared.item.PartKind.{PartKind}
 use Rattle.jm_section.specs.declared.item.PartKind.TheVariants.{First, Middle, Last, Cancel}
 use Rattle.jm_section.specs.declared.reading.SectionFault.{SectionFault}
-use Rattle.jm_section.specs.Grammar.{is_passed, IsSegment, first_part, middle_part, last_part, cancel_first, cancel_other, SpellsWhat, with_status, without_status, passed, passed_long, segment}
+use Rattle.jm_section.specs.Grammar.{is_passed, IsSegment, first_part, middle_part, last_part, cancel_first, cancel_other, SpellsWhat, with_status, without_status, passed, segment}
 use Rattle.jm_section.specs.Reading.{whole, under_running, exclusive_ended, exclusive_read, what_read}
 
 abbrev got : What × ℕ → Result (What × ℕ) SectionFault
@@ -37,7 +38,7 @@ whole_read place running command rest h e = e ∙ ap (whole place) (command_read
 
 -- ## System Exclusive
 
-data_len-stops : (octets rest : List ℕ) (last : ℕ) → IsData octets → 128 ≤ last → data_len (octets ++ last ∷ rest) ≡ length octets
+pub data_len-stops : (octets rest : List ℕ) (last : ℕ) → IsData octets → 128 ≤ last → data_len (octets ++ last ∷ rest) ≡ length octets
 data_len-stops [] rest last h high = rw (le-ltb last 128 high) refl
 data_len-stops (octet ∷ octets) rest last h high =
     let both = and_parts (is_data octet) (list_all is_data octets) h in
@@ -72,24 +73,23 @@ pub ended : (place : ℕ) (running : Option ℕ) (first last : ℕ) (octets rest
 ended place running first last octets rest f h high =
     exclusive_begins place running first (octets ++ last ∷ rest) f ∙ exclusive_read-ended place first last octets rest h high
 
-segment_read : (kind : PartKind) (place : ℕ) (running : Option ℕ) (first last : ℕ) (octets rest : List ℕ) → IsSegment kind first last → IsData octets
-    → what_read place running (first ∷ (octets ++ last ∷ rest)) ≡ got (Part kind (length octets), length octets + 2)
-segment_read First place running first last octets rest first_part h = ended place running 0xf0 0xf0 octets rest (inl refl) h (omega arith)
-segment_read Middle place running first last octets rest middle_part h = ended place running 0xf7 0xf0 octets rest (inr refl) h (omega arith)
-segment_read Last place running first last octets rest last_part h = ended place running 0xf7 0xf7 octets rest (inr refl) h (omega arith)
-segment_read Cancel place running first last octets rest cancel_first h = ended place running 0xf0 0xf4 octets rest (inl refl) h (omega arith)
-segment_read Cancel place running first last octets rest cancel_other h = ended place running 0xf7 0xf4 octets rest (inr refl) h (omega arith)
+-- the data octets of a segment
+between : (kind : PartKind) (octets rest : List ℕ) → got (Part kind (take (length octets) (octets ++ rest)), length octets + 2) ≡ got (Part kind octets, length octets + 2)
+between kind octets rest = ap (λ (t : List ℕ). got (Part kind t, length octets + 2)) (take-append_seam octets rest)
 
-long_read : (place : ℕ) (running : Option ℕ) (octets rest : List ℕ) → IsData octets → 2046 < length octets
-    → what_read place running (0xf0 ∷ (octets ++ 0xf7 ∷ rest)) ≡ got (Passed 0xf0, length octets + 2)
-long_read place running octets rest h long =
-    ended place running 0xf0 0xf7 octets rest (inl refl) h (omega arith) ∙ rw (lt-ltb 2046 (length octets) long) refl
+segment_read : (kind : PartKind) (place : ℕ) (running : Option ℕ) (first last : ℕ) (octets rest : List ℕ) → IsSegment kind first last → IsData octets
+    → what_read place running (first ∷ (octets ++ last ∷ rest)) ≡ got (Part kind octets, length octets + 2)
+segment_read First place running first last octets rest first_part h = ended place running 0xf0 0xf0 octets rest (inl refl) h (omega arith) ∙ between First octets (0xf0 ∷ rest)
+segment_read Middle place running first last octets rest middle_part h = ended place running 0xf7 0xf0 octets rest (inr refl) h (omega arith) ∙ between Middle octets (0xf0 ∷ rest)
+segment_read Last place running first last octets rest last_part h = ended place running 0xf7 0xf7 octets rest (inr refl) h (omega arith) ∙ between Last octets (0xf7 ∷ rest)
+segment_read Cancel place running first last octets rest cancel_first h = ended place running 0xf0 0xf4 octets rest (inl refl) h (omega arith) ∙ between Cancel octets (0xf4 ∷ rest)
+segment_read Cancel place running first last octets rest cancel_other h = ended place running 0xf7 0xf4 octets rest (inr refl) h (omega arith) ∙ between Cancel octets (0xf4 ∷ rest)
 
 sysex_read : (place : ℕ) (running : Option ℕ) (octets rest : List ℕ) → IsCommand (Sysex octets)
     → what_read place running (spelling (Sysex octets) ++ rest) ≡ whole place (command_read (spelling (Sysex octets) ++ rest))
 sysex_read place running octets rest h =
     let e = tail_joins 0xf0 0xf7 octets rest in
-    rw e (ended place running 0xf0 0xf7 octets rest (inl refl) h.octets_are_data (omega arith) ∙ rw (le-ltb 2046 (length octets) h.few) refl)
+    rw e (ended place running 0xf0 0xf7 octets rest (inl refl) h.octets_are_data (omega arith))
 
 -- ## Every command
 
@@ -182,7 +182,5 @@ pub what_spelled : (place : ℕ) (running : Option ℕ) (text : List ℕ) (what 
 what_spelled place running text what rest (with_status command h) = whole_read place running command rest h (command_begins place running command rest h)
 what_spelled place running text what rest (without_status command h lt e) = rw e (behind_read place command rest h lt)
 what_spelled place running text what rest (passed octet h) = passed_read place running octet rest h
-what_spelled place running text what rest (passed_long octets h long) =
-    rw (tail_joins 0xf0 0xf7 octets rest) (long_read place running octets rest h long ∙ ap (λ (n : ℕ). got (Passed 0xf0, n)) (size_is 0xf0 0xf7 octets))
 what_spelled place running text what rest (segment kind first last octets s h) =
-    rw (tail_joins first last octets rest) (segment_read kind place running first last octets rest s h ∙ ap (λ (n : ℕ). got (Part kind (length octets), n)) (size_is first last octets))
+    rw (tail_joins first last octets rest) (segment_read kind place running first last octets rest s h ∙ ap (λ (n : ℕ). got (Part kind octets, n)) (size_is first last octets))

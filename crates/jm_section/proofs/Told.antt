@@ -1,5 +1,5 @@
 -- The fault that is told is the first one.
-use Rattle.std.proofs.Common.{◌≡◌, ℕ, suc, ◌+◌, ◌≤◌, ◌<◌, true, false, eqb, ltb, List, [], ◌∷◌, ◌++◌, drop, take, get_or, length, Option, Some, None, Result, Ok, Err, refl, sym, ap, subst, ◌∙◌, drop-cons, add-one, add_comm, arith, inl, inr}
+use Rattle.std.proofs.Common.{◌≡◌, ℕ, suc, ◌+◌, ◌≤◌, ◌<◌, true, false, eqb, ltb, List, [], ◌∷◌, ◌++◌, drop, take, get_or, length, Option, Some, None, Result, Ok, Err, refl, sym, ap, subst, ◌∙◌, append_assoc, drop-cons, add-one, add_comm, arith, inl, inr}
 use Rattle.std.proofs.lemmas.Bool.{ltb-true, ltb-false, eqb-true, eqb-false, cases_Bool}
 use Rattle.std.proofs.lemmas.List.{take-append-drop}
 use Rattle.std.proofs.lemmas.List.Sums.{prefix_len-le-length}
@@ -10,14 +10,14 @@ use Rattle.jm_cmds.specs.declared.reading.CmdFault.TheVariants as commands
 use Rattle.jm_cmds.specs.Command.{spelling}
 use Rattle.jm_cmds.specs.Data.{is_data, data_len}
 use Rattle.jm_cmds.specs.DataLaws.{IsData-whole, IsSysex-front}
-use Rattle.jm_cmds.specs.Reading.{command_read}
+use Rattle.jm_cmds.specs.Reading.{after_status, command_read}
 use Rattle.jm_cmds.specs.CommandLaws.{command_read-spelling}
 use Rattle.jm_section.specs.declared.item.What.{What}
 use Rattle.jm_section.specs.declared.reading.SectionFault.{SectionFault}
 use Rattle.jm_section.specs.declared.reading.SectionFault.TheVariants.{NoStatus, BadCommand}
 use Rattle.jm_section.specs.Grammar.{is_passed}
 use Rattle.jm_section.specs.Reading.{whole, place_less, one_less, under_running, exclusive_read, what_read}
-use Rattle.jm_section.specs.Faults.{IsExclusive, IsEnd, IsBadCommand, unended, ended_badly, of_status, under_status}
+use Rattle.jm_section.specs.Faults.{IsExclusive, IsEnd, IsBadCommand, unended, ended_badly, overlong, of_status, under_status}
 use Rattle.jm_section.proofs.Found.{is_ended}
 
 abbrev refused : SectionFault → Result (What × ℕ) SectionFault
@@ -89,7 +89,7 @@ not_end last f4 f0 f7 (inr (inl e)) = eqb-false last 247 f7 e
 not_end last f4 f0 f7 (inr (inr e)) = eqb-false last 244 f4 e
 
 -- a whole System Exclusive command is read
-whole_reads : (rest : List ℕ) → eqb (data_len rest) (length rest) ≡ false → get_or rest (data_len rest) 0 ≡ 0xf7 → data_len rest ≤ 2046
+whole_reads : (rest : List ℕ) → eqb (data_len rest) (length rest) ≡ false → get_or rest (data_len rest) 0 ≡ 0xf7 → data_len rest ≤ 65536
     → command_read (0xf0 ∷ rest) ≡ Ok (Sysex (take (data_len rest) rest), length (spelling (Sysex (take (data_len rest) rest))))
 whole_reads rest f e few =
     let n = data_len rest in
@@ -102,6 +102,22 @@ no_fault : (place : ℕ) (read : Result (Command × ℕ) CmdFault) (x : Command 
 no_fault place (Ok y) x fault e h = cc
 no_fault place (Err g) x fault e h = cc
 
+-- one of too many data octets is refused
+overlong_reads : (rest : List ℕ) → ltb 65536 (data_len rest) ≡ true → command_read (0xf0 ∷ rest) ≡ Err commands.TooLong
+unfolding command_read after_status
+overlong_reads rest long = rw long refl
+
+overlong_at : (place : ℕ) (running : Option ℕ) (rest : List ℕ) (fault : SectionFault) → eqb (data_len rest) (length rest) ≡ false → get_or rest (data_len rest) 0 ≡ 0xf7 → ltb 65536 (data_len rest) ≡ true
+    → whole place (command_read (0xf0 ∷ rest)) ≡ refused fault → WhatFault place running (0xf0 ∷ rest) fault
+overlong_at place running rest fault f e long h =
+    let n = data_len rest in
+    let ended = is_ended 0xf0 rest f in
+    let split : 0xf0 ∷ rest ≡ 0xf0 ∷ (take n rest ++ 0xf7 ∷ drop (suc n) rest) =
+    rw e at ended.split ∙ ap (λ (t : List ℕ). 0xf0 ∷ t) (append_assoc (take n rest) (0xf7 ∷ []) (drop (suc n) rest)) in
+    let many : 65536 < length (take n rest) = omega (arith, ltb-true 65536 n long, ended.count) in
+    bad place running (0xf0 ∷ rest) commands.TooLong fault
+    (subst (λ (t : List ℕ). IsBadCommand running t commands.TooLong) (sym split) (overlong (take n rest) (drop (suc n) rest) ended.data_octets many)) (rw (overlong_reads rest long) at h)
+
 faulty_f0 : (place : ℕ) (running : Option ℕ) (rest : List ℕ) (fault : SectionFault) → exclusive_read place (0xf0 ∷ rest) ≡ refused fault → WhatFault place running (0xf0 ∷ rest) fault
 faulty_f0 place running rest fault h =
     let n = data_len rest in
@@ -113,11 +129,11 @@ faulty_f0 place running rest fault h =
         | inr f4 ↦ elim (cases_Bool (eqb last 0xf0)) [
           | inl t ↦ let never = rw (some, f4, t) at h in absurd cc
           | inr f0 ↦ elim (cases_Bool (eqb last 0xf7)) [
-            | inl t ↦ elim (cases_Bool (ltb 2046 n)) [
-              | inl long ↦ let never = rw (some, f4, f0, t, long) at h in absurd cc
+            | inl t ↦ elim (cases_Bool (ltb 65536 n)) [
+              | inl long ↦ overlong_at place running rest fault some (eqb-true last 0xf7 t) long (rw (some, f4, f0, t) at h)
               | inr few ↦
                   absurd (no_fault place (command_read (0xf0 ∷ rest)) (Sysex (take n rest), length (spelling (Sysex (take n rest)))) fault
-                  (whole_reads rest some (eqb-true last 0xf7 t) (ltb-false 2046 n few)) (rw (some, f4, f0, t, few) at h))
+                  (whole_reads rest some (eqb-true last 0xf7 t) (ltb-false 65536 n few)) (rw (some, f4, f0, t) at h))
             ]
             | inr f7 ↦ ended_at place running 0xf0 rest fault (inl refl) some (not_end last f4 f0 f7) (rw (some, f4, f0, f7) at h)
           ]

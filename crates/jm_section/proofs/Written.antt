@@ -6,18 +6,20 @@ use Rattle.std.proofs.lemmas.List.Elements.{recursion_from_All}
 use Rattle.std.proofs.lemmas.Bool.{lt-ltb, le-ltb, ltb-true, eqb-true, and_parts, cases_Bool, cases_lt}
 use Rattle.std.proofs.lemmas.List.{append-nil}
 use Rattle.jm_cmds.specs.declared.commands.Command.{Command}
-use Rattle.jm_cmds.specs.Command.{spelling, status_of, IsCommand}
+use Rattle.jm_cmds.specs.Command.{status_of, IsCommand}
 use Rattle.jm_wire.specs.Delta.{delta}
 use Rattle.jm_wire.specs.DeltaWriting.{written as written_delta}
 use Rattle.jm_section.specs.declared.item.Item.{Item}
 use Rattle.jm_section.specs.declared.item.What.{What}
 use Rattle.jm_section.specs.declared.item.What.TheVariants.{Whole, Part, Passed}
+use Rattle.jm_section.specs.declared.item.PartKind.{PartKind}
+use Rattle.jm_section.specs.declared.item.PartKind.TheVariants as part
 use Rattle.jm_section.specs.declared.header.Head.{Head}
 use Rattle.jm_section.specs.declared.next.Place.TheVariants.{First, Later}
-use Rattle.jm_section.specs.Running.{running_after, is_left_out}
-use Rattle.jm_section.specs.Section.{command_text, piece, pieces, list_text, header, section, timed, is_whole, IsWritable}
-use Rattle.jm_section.specs.Grammar.{SpellsWhat, with_status, without_status, SpellsDelta, no_field, field, Spells, nothing, one_more, ends_with_item, has_field, running_of, SpellsHead, short_head, long_head, Read, IsSection}
-use Rattle.jm_section.specs.Laws.{HasCommand, written, IsReadBack}
+use Rattle.jm_section.specs.Running.{is_left_out}
+use Rattle.jm_section.specs.Section.{command_text, header, segment_first, segment_last, what_text, item_text, items_text, section, is_written, IsWritable}
+use Rattle.jm_section.specs.Grammar.{IsSegment, first_part, middle_part, last_part, cancel_other, SpellsWhat, with_status, without_status, segment, SpellsDelta, no_field, field, Spells, nothing, one_more, ends_with_item, has_field, running_behind, running_of, SpellsHead, short_head, long_head, Read, IsSection}
+use Rattle.jm_section.specs.Laws.{IsWhat, written, IsReadBack}
 use Rattle.jm_section.proofs.Lists.{running_from-push, has_field-push}
 use Rattle.jm_section.proofs.Sections.{section_spelled, is_read}
 
@@ -73,17 +75,10 @@ header_is len false most =
 
 -- ## The list
 
--- a whole command with a delta that has a field
+-- an item that was written is spelled, under whatever running status, and its delta has a field
 record IsFit (item : Item) : Type 0 where
-  command : Command
-  what_is : item.what ≡ Whole command
-  bounds : IsCommand command
+  spelled : (running : Option ℕ) → SpellsWhat running (what_text running item.what) item.what
   below : item.delta < 2 ^ 28
-
-command_is : (what : What) → is_whole what ≡ true → HasCommand what → (command : Command) × (what ≡ Whole command) × IsCommand command
-command_is (Whole command) w h = (command, refl, h)
-command_is (Part kind octets) w h = absurd cc
-command_is (Passed octet) w h = absurd cc
 
 -- a command under running status
 under : (running : Option ℕ) (command : Command) → IsCommand command → SpellsWhat running (command_text running command) (Whole command)
@@ -97,84 +92,79 @@ under (Some before) command h =
       | inr f ↦ rw f (with_status command h)
     ]
 
--- the first item and the others
-timed-cons : (item : Item) (items : List Item) (command : Command) → item.what ≡ Whole command → timed (item ∷ items) ≡ record { delta = item.delta; command = command } ∷ timed items
-timed-cons item items command e = rw e refl
+segment_is : (kind : PartKind) → IsSegment kind (segment_first kind) (segment_last kind)
+segment_is part.First = first_part
+segment_is part.Middle = middle_part
+segment_is part.Last = last_part
+segment_is part.Cancel = cancel_other
 
--- the numbers of an item that was written
-delta_text : (item : Item) → IsFit item → SpellsDelta true (delta item.delta) item.delta
-delta_text item fit =
-    let w = written_delta item.delta fit.below in
+what_is_spelled : (what : What) → is_written what ≡ true → IsWhat what → (running : Option ℕ) → SpellsWhat running (what_text running what) what
+unfolding what_text
+what_is_spelled (Whole command) w h running = under running command h
+what_is_spelled (Part kind octets) w h running = segment kind (segment_first kind) (segment_last kind) octets (segment_is kind) h.octets_are_data
+what_is_spelled (Passed octet) w h running = absurd cc
+
+-- the delta of an item that was written
+delta_text : (item : Item) → item.delta < 2 ^ 28 → SpellsDelta true (delta item.delta) item.delta
+delta_text item below =
+    let w = written_delta item.delta below in
     subst (λ (n : ℕ). SpellsDelta true (delta item.delta) n) w.value_is (field (delta item.delta) w.field)
 
-running_is : (before : List Item) (item : Item) (command : Command) → item.what ≡ Whole command → running_of (before ++ item ∷ []) ≡ running_after (running_of before) (status_of command)
-running_is before item command e = running_from-push None before item ∙ rw e refl
-
 -- one more item that was written behind others
-written_behind : (front : List ℕ) (before : List Item) (item : Item) → Spells true front before → has_field true before ≡ true → (fit : IsFit item)
-    → Spells true (front ++ (delta item.delta ++ command_text (running_of before) fit.command)) (before ++ item ∷ [])
+written_behind : (front : List ℕ) (before : List Item) (item : Item) → Spells true front before → has_field true before ≡ true → IsFit item
+    → Spells true (front ++ (delta item.delta ++ what_text (running_of before) item.what)) (before ++ item ∷ [])
 written_behind front before item s has fit =
-    one_more front before (delta item.delta) (command_text (running_of before) fit.command) item.delta item.what s
-    (subst (λ (b : Bool). SpellsDelta b (delta item.delta) item.delta) (sym has) (delta_text item fit))
-    (subst (λ (w : What). SpellsWhat (running_of before) (command_text (running_of before) fit.command) w) (sym fit.what_is) (under (running_of before) fit.command fit.bounds))
+    one_more front before (delta item.delta) (what_text (running_of before) item.what) item.delta item.what s
+    (subst (λ (b : Bool). SpellsDelta b (delta item.delta) item.delta) (sym has) (delta_text item fit.below)) (fit.spelled (running_of before))
 
-pieces_later : (running : Option ℕ) (item : Item) (items : List Item) (command : Command) → item.what ≡ Whole command
-    → pieces (Later running) (timed (item ∷ items)) ≡ (delta item.delta ++ command_text running command) ++ pieces (Later (running_after running (status_of command))) (timed items)
-unfolding piece
-pieces_later running item items command e = ap (pieces (Later running)) (timed-cons item items command e)
+text_later : (running : Option ℕ) (item : Item) (items : List Item)
+    → items_text (Later running) (item ∷ items) ≡ (delta item.delta ++ what_text running item.what) ++ items_text (Later (running_behind running item.what)) items
+unfolding item_text
+text_later running item items = refl
 
-pieces_first : (item : Item) (items : List Item) (command : Command) → item.what ≡ Whole command
-    → pieces First (timed (item ∷ items)) ≡ spelling command ++ pieces (Later (running_after None (status_of command))) (timed items)
-unfolding piece
-pieces_first item items command e = ap (pieces First) (timed-cons item items command e)
+text_first : (item : Item) (items : List Item) → items_text First (item ∷ items) ≡ what_text None item.what ++ items_text (Later (running_behind None item.what)) items
+unfolding item_text
+text_first item items = refl
 
 -- the items behind others are spelled by what is written of them
 others_written : (front : List ℕ) (before items : List Item) → Spells true front before → has_field true before ≡ true → AllByRecursion IsFit items
-    → Spells true (front ++ pieces (Later (running_of before)) (timed items)) (before ++ items)
+    → Spells true (front ++ items_text (Later (running_of before)) items) (before ++ items)
 others_written front before [] s has fits =
     subst (λ (t : List Item). Spells true (front ++ []) t) (sym (append-nil before)) (subst (λ (t : List ℕ). Spells true t before) (sym (append-nil front)) s)
 others_written front before (item ∷ items) s has fits =
-    let fit = fits.0 in
-    let text : List ℕ = delta item.delta ++ command_text (running_of before) fit.command in
-    let left = pieces (Later (running_after (running_of before) (status_of fit.command))) (timed items) in
-    let one = written_behind front before item s has fit in
+    let text : List ℕ = delta item.delta ++ what_text (running_of before) item.what in
+    let left = items_text (Later (running_behind (running_of before) item.what)) items in
+    let one = written_behind front before item s has fits.0 in
     let all = others_written (front ++ text) (before ++ item ∷ []) items one (has_field-push true before item) fits.1 in
-    let octets_are : (front ++ text) ++ pieces (Later (running_of (before ++ item ∷ []))) (timed items) ≡ front ++ pieces (Later (running_of before)) (timed (item ∷ items)) =
-    ap (λ (r : Option ℕ). (front ++ text) ++ pieces (Later r) (timed items)) (running_is before item fit.command fit.what_is)
+    let octets_are : (front ++ text) ++ items_text (Later (running_of (before ++ item ∷ []))) items ≡ front ++ items_text (Later (running_of before)) (item ∷ items) =
+    ap (λ (r : Option ℕ). (front ++ text) ++ items_text (Later r) items) (running_from-push None before item)
     ∙ append_assoc front text left
-    ∙ ap (λ (t : List ℕ). front ++ t) (sym (pieces_later (running_of before) item items fit.command fit.what_is)) in
+    ∙ ap (λ (t : List ℕ). front ++ t) (sym (text_later (running_of before) item items)) in
     subst (λ (t : List ℕ). Spells true t (before ++ item ∷ items)) octets_are
-    (subst (λ (t : List Item). Spells true ((front ++ text) ++ pieces (Later (running_of (before ++ item ∷ []))) (timed items)) t) (append_assoc before (item ∷ []) items) all)
+    (subst (λ (t : List Item). Spells true ((front ++ text) ++ items_text (Later (running_of (before ++ item ∷ []))) items) t) (append_assoc before (item ∷ []) items) all)
 
 -- the first item has neither delta field nor running status
-first_written : (item : Item) → item.delta ≡ 0 → (fit : IsFit item) → Spells true (spelling fit.command) (item ∷ [])
+first_written : (item : Item) → item.delta ≡ 0 → IsFit item → Spells true (what_text None item.what) (item ∷ [])
 first_written item e fit =
-    one_more [] [] [] (spelling fit.command) item.delta item.what nothing (subst (λ (n : ℕ). SpellsDelta false [] n) (sym e) no_field)
-    (subst (λ (w : What). SpellsWhat None (spelling fit.command) w) (sym fit.what_is) (with_status fit.command fit.bounds))
+    one_more [] [] [] (what_text None item.what) item.delta item.what nothing (subst (λ (n : ℕ). SpellsDelta false [] n) (sym e) no_field) (fit.spelled None)
 
-all_written : (items : List Item) → AllByRecursion IsFit items → ((item : Item) (others : List Item) → items ≡ item ∷ others → item.delta ≡ 0) → Spells true (list_text (timed items)) items
+all_written : (items : List Item) → AllByRecursion IsFit items → ((item : Item) (others : List Item) → items ≡ item ∷ others → item.delta ≡ 0) → Spells true (items_text First items) items
 all_written [] fits first = nothing
 all_written (item ∷ items) fits first =
-    let fit = fits.0 in
-    let all = others_written (spelling fit.command) (item ∷ []) items (first_written item (first item items refl) fit) refl fits.1 in
-    let octets_are : spelling fit.command ++ pieces (Later (running_of (item ∷ []))) (timed items) ≡ list_text (timed (item ∷ items)) =
-    ap (λ (r : Option ℕ). spelling fit.command ++ pieces (Later r) (timed items)) (running_is [] item fit.command fit.what_is)
-    ∙ sym (pieces_first item items fit.command fit.what_is) in
-    subst (λ (t : List ℕ). Spells true t (item ∷ items)) octets_are all
+    let all = others_written (what_text None item.what) (item ∷ []) items (first_written item (first item items refl) fits.0) refl fits.1 in
+    subst (λ (t : List ℕ). Spells true t (item ∷ items)) (sym (text_first item items)) all
 
-fits_all : (items : List Item) → AllByRecursion (λ item. IsTrue (is_whole item.what)) items → AllByRecursion (λ item. item.delta < 2 ^ 28) items → AllByRecursion (λ item. HasCommand item.what) items → AllByRecursion IsFit items
+fits_all : (items : List Item) → AllByRecursion (λ item. IsTrue (is_written item.what)) items → AllByRecursion (λ item. item.delta < 2 ^ 28) items → AllByRecursion (λ item. IsWhat item.what) items → AllByRecursion IsFit items
 fits_all [] w d h = tt
-fits_all (item ∷ items) w d h =
-    let c = command_is item.what w.0 h.0 in
-    (record { command = c.0; what_is = c.1; bounds = c.2; below = d.0 }, fits_all items w.1 d.1 h.1)
+fits_all (item ∷ items) w d h = (record { spelled = what_is_spelled item.what w.0 h.0; below = d.0 }, fits_all items w.1 d.1 h.1)
 
 -- ## The section
 
-pub section_written : (items : List Item) (journal : Bool) (rest : List ℕ) → IsWritable items → All (λ item. HasCommand item.what) items → IsReadBack items journal rest
+pub section_written : (items : List Item) (journal : Bool) (rest : List ℕ) → IsWritable items → All (λ item. IsWhat item.what) items → IsReadBack items journal rest
 section_written items journal rest w h =
-    let list = list_text (timed items) in
+    let list = items_text First items in
     let head = header_is (length list) journal w.short in
-    let fits = fits_all items (recursion_from_All (λ item. IsTrue (is_whole item.what)) items w.whole) (recursion_from_All (λ item. item.delta < 2 ^ 28) items w.deltas) (recursion_from_All (λ item. HasCommand item.what) items h) in
+    let fits = fits_all items (recursion_from_All (λ item. IsTrue (is_written item.what)) items w.written) (recursion_from_All (λ item. item.delta < 2 ^ 28) items w.deltas) (recursion_from_All (λ item. IsWhat item.what) items h) in
     let spelled : IsSection (section items journal ++ rest) (written items journal) = record {
       head = head_written (length list) journal head.size;
       head_text = header (length list) journal;

@@ -24,11 +24,13 @@ abbrev pub IsEnd : ℕ → Type 0
 IsEnd octet = (octet ≡ 0xf0) ⊎ ((octet ≡ 0xf7) ⊎ (octet ≡ 0xf4))
 
 -- These octets, which are not none, begin no command under this running status. The places inside the
--- fault are counted from the first of them.
+-- fault are counted from the first of them. A message that is too long is one of over 65,536 data octets, for which the
+-- twelve bits of LEN leave no room.
 pub data IsBadCommand (running : Option ℕ) : List ℕ → CmdFault → Type 0 where
   unended : (first : ℕ) (octets : List ℕ) → IsExclusive first → IsData octets → IsBadCommand running (first ∷ octets) commands.Short
   ended_badly : (first last : ℕ) (octets more : List ℕ) → IsExclusive first → IsData octets → 128 ≤ last → (IsEnd last → ⊥)
       → IsBadCommand running (first ∷ (octets ++ last ∷ more)) (commands.BadData (length octets + 1))
+  overlong : (octets more : List ℕ) → IsData octets → 65536 < length octets → IsBadCommand running (0xf0 ∷ (octets ++ 0xf7 ∷ more)) commands.TooLong
   of_status : (first : ℕ) (octets : List ℕ) (fault : CmdFault) → 128 ≤ first → (IsExclusive first → ⊥) → is_passed first ≡ false → command_read (first ∷ octets) ≡ Err fault
       → IsBadCommand running (first ∷ octets) fault
   under_status : (status first : ℕ) (octets : List ℕ) (fault : CmdFault) → first < 128 → running ≡ Some status → command_read (status ∷ take 2 (first ∷ octets)) ≡ Err fault

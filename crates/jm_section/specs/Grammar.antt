@@ -32,8 +32,7 @@ pub data SpellsWhat (running : Option ℕ) : List ℕ → What → Type 0 where
   with_status : (command : Command) → IsCommand command → SpellsWhat running (spelling command) (Whole command)
   without_status : (command : Command) → IsCommand command → status_of command < 0xf0 → running ≡ Some (status_of command) → SpellsWhat running (drop 1 (spelling command)) (Whole command)
   passed : (octet : ℕ) → IsTrue (is_passed octet) → SpellsWhat running (octet ∷ []) (Passed octet)
-  passed_long : (octets : List ℕ) → IsData octets → 2046 < length octets → SpellsWhat running (0xf0 ∷ (octets ++ 0xf7 ∷ [])) (Passed 0xf0)
-  segment : (kind : PartKind) (first last : ℕ) (octets : List ℕ) → IsSegment kind first last → IsData octets → SpellsWhat running (first ∷ (octets ++ last ∷ [])) (Part kind (length octets))
+  segment : (kind : PartKind) (first last : ℕ) (octets : List ℕ) → IsSegment kind first last → IsData octets → SpellsWhat running (first ∷ (octets ++ last ∷ [])) (Part kind octets)
 
 -- The running status behind an item: segments and F0 to F7 end it, F8 to FF leave it.
 abbrev pub running_behind : Option ℕ → What → Option ℕ

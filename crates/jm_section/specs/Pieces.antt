@@ -4,7 +4,8 @@ use Rattle.std.proofs.Common.{refl, sym, ap, ◌∙◌, append_assoc, arith, inl
 use Rattle.std.proofs.lemmas.List.{append-nil}
 use Rattle.std.proofs.lemmas.Bool.{cases_Bool}
 use Rattle.jm_section.specs.declared.next.Place.{Place}
-use Rattle.jm_section.specs.Section.{Timed, piece, pieces, place_after, list_text, header, section_of}
+use Rattle.jm_section.specs.declared.next.Place.TheVariants.{First, Later}
+use Rattle.jm_section.specs.Section.{Timed, command_text, piece, pieces, place_after, list_text, header, section_of, what_text, item_text, item_of, items_of, items_text, section}
 
 -- the place behind commands that begin at this one
 abbrev pub place_behind : Place → List Timed → Place
@@ -31,6 +32,19 @@ length-pieces-push place ts t =
 
 pub place_behind-push : (place : Place) (ts : List Timed) (t : Timed) → place_behind place (ts ++ t ∷ []) ≡ place_after (place_behind place ts) t.command
 place_behind-push place ts t = place_behind-append place ts (t ∷ [])
+
+-- what is written of commands is what is written of their items
+item_text-command : (place : Place) (t : Timed) → item_text place (item_of t) ≡ piece place t
+unfolding item_text what_text piece command_text
+item_text-command First t = refl
+item_text-command (Later running) t = refl
+
+pub items_text-commands : (place : Place) (ts : List Timed) → items_text place (items_of ts) ≡ pieces place ts
+items_text-commands place [] = refl
+items_text-commands place (t ∷ ts) = rw (item_text-command place t, items_text-commands (place_after place t.command) ts) refl
+
+pub section-commands : (ts : List Timed) (journal : Bool) → section (items_of ts) journal ≡ section_of ts journal
+section-commands ts journal = rw (items_text-commands First ts) refl
 
 -- a header has one octet or two
 pub length-header : (len : ℕ) (journal : Bool) → length (header len journal) ≡ (if nat_lt len 16 then 1 else 2)

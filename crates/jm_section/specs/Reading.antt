@@ -54,11 +54,10 @@ under_running place (Some status) octets = whole place (one_less (command_read (
 -- The item that begins with F0 or F7, has so many data octets, and ends with this octet.
 abbrev pub exclusive_ended : (place : ℕ) → List ℕ → (first count last : ℕ) → Result (What × ℕ) SectionFault
 exclusive_ended place octets first count last =
-    if last == 0xf4 then Ok (Part Cancel count, count + 2)
-    else (if last == 0xf0 then Ok (Part (if first == 0xf0 then First else Middle) count, count + 2)
-    else (if last == 0xf7 then
-    (if first == 0xf7 then Ok (Part Last count, count + 2)
-    else (if nat_lt 2046 count then Ok (Passed 0xf0, count + 2) else whole place (command_read octets)))
+    let between = take count (drop 1 octets) in
+    if last == 0xf4 then Ok (Part Cancel between, count + 2)
+    else (if last == 0xf0 then Ok (Part (if first == 0xf0 then First else Middle) between, count + 2)
+    else (if last == 0xf7 then (if first == 0xf7 then Ok (Part Last between, count + 2) else whole place (command_read octets))
     else Err (BadCommand place (commands.BadData (count + 1)))))
 
 abbrev pub exclusive_read : ℕ → List ℕ → Result (What × ℕ) SectionFault

@@ -1,6 +1,6 @@
 //! What stands in a MIDI list.
 
-use jm_cmds::Command;
+use jm_cmds::{Command, Sysex};
 
 /// One entry of a MIDI list, with the time since the entry before it.
 #[derive(Debug, Drop)]
@@ -16,10 +16,9 @@ pub enum What {
     /// A whole command.
     Whole(Command),
     /// A segment of a System Exclusive command that is sent in several (RFC 6295, section 3.2,
-    /// Figure 5), with the number of its data octets.
-    Part { kind: PartKind, octets: usize },
-    /// A command that is passed over, by its first octet: F4, F5, F9 or FD, or F0 for a System
-    /// Exclusive command of over 2,046 data octets.
+    /// Figure 5), with its data octets.
+    Part { kind: PartKind, octets: Sysex },
+    /// An octet that is passed over alone: F4, F5, F9 or FD.
     Passed(u8),
 }
 

@@ -2,8 +2,8 @@
 //! length of the MIDI list, and in the list commands with delta times, where a channel command may
 //! leave its status octet out.
 //!
-//! [`write_section`] writes a section of items. Beneath it stand [`write_section_header`] and
-//! [`write_next`], for a caller that keeps its commands elsewhere and takes no memory.
+//! [`write_section`] writes a section of items. Beneath it stand [`write_section_header`],
+//! [`write_next`] and [`write_segment`], for a caller that keeps its commands elsewhere and takes no memory.
 #![tactic(auto)]
 
 mod command;
@@ -12,6 +12,7 @@ mod item;
 pub mod laws;
 mod next;
 mod reading;
+mod segment;
 mod writing;
 
 pub use command::write_command;
@@ -19,4 +20,5 @@ pub use header::{section_header_len, write_section_header};
 pub use item::{Item, PartKind, What};
 pub use next::{Place, next_len, write_next};
 pub use reading::{Section, SectionFault, read_section};
+pub use segment::{next_segment_len, segment_len, write_segment};
 pub use writing::write_section;

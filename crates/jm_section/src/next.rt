@@ -1,11 +1,14 @@
 //! One command at the end of a MIDI list.
 
-ghost use Rattle.std.specs.Prelude.{◌≡◌, ◌<◌, ◌≤◌, ◌^◌, length};
+ghost use Rattle.std.specs.Prelude.{◌≡◌, ◌<◌, ◌≤◌, ◌^◌, length, false, true};
+ghost use Rattle.jm_cmds.specs.Command.{is_long};
 ghost use Rattle.jm_wire.specs.Octets.{Appends};
+ghost use Rattle.jm_section.specs.Grammar.{running_behind};
 ghost use Rattle.jm_section.specs.Running.{running_after, is_left_out};
-ghost use Rattle.jm_section.specs.Section.{Timed, place_after, piece, command_text};
+ghost use Rattle.jm_section.specs.Section.{Timed, place_after, place_behind_item, piece, command_text};
 
 use crate::command::{write_command, write_data};
+use crate::item::What;
 use jm_cmds::Command;
 use jm_wire::{Octets, delta_len, write_delta};
 
@@ -21,7 +24,7 @@ pub enum Place {
 
 /// The running status behind a command with this status octet (RFC 6295, section 3.2): a channel
 /// command sets it, F0 to F7 end it, F8 to FF leave it.
-pub(crate) fn running_after(running: Option<u8>, status: u8) -> Option<u8>
+fn running_after(running: Option<u8>, status: u8) -> Option<u8>
     ensures { result ≡ running_after running status }
 {
     if status < 0xf0 {
@@ -30,6 +33,17 @@ pub(crate) fn running_after(running: Option<u8>, status: u8) -> Option<u8>
         None
     } else {
         running
+    }
+}
+
+/// The running status behind an entry of a list.
+pub(crate) fn running_behind(running: Option<u8>, what: &What) -> Option<u8>
+    ensures { result ≡ running_behind running what.now }
+{
+    match what {
+        What::Whole(command) => running_after(running, command.status()),
+        What::Part { .. } => None,
+        What::Passed(octet) => running_after(running, *octet),
     }
 }
 
@@ -53,6 +67,16 @@ impl Place {
             Place::Later(running) => Place::Later(running_after(running, command.status())),
         }
     }
+
+    /// The place behind an entry that stands at this one.
+    pub(crate) fn after_item(self, what: &What) -> Place
+        ensures { result ≡ place_behind_item self what.now }
+    {
+        match self {
+            Place::First => Place::Later(running_behind(None, what)),
+            Place::Later(running) => Place::Later(running_behind(running, what)),
+        }
+    }
 }
 
 /// Appends a command without its status octet where the running status spares it.
@@ -72,7 +96,8 @@ fn write_under(running: Option<u8>, command: &Command, out: &mut Octets)
 #[tactic(auto, unfolding(crate::specs::Section::command_text))]
 fn len_under(running: Option<u8>, command: &Command) -> usize
     ensures value { result ≡ length (command_text running command.now) }
-    ensures bound { result ≤ 2048 }
+    ensures bound { result ≤ 65538 }
+    ensures whole { is_long command.now ≡ false → result ≤ 2048 }
 {
     if is_left_out(running, command.status()) {
         command.size() - 1
@@ -100,11 +125,13 @@ pub fn write_next(place: Place, delta: u32, command: &Command, out: &mut Octets)
     place.after(command)
 }
 
-/// How many octets [`write_next`] appends. A delta over 0x0FFFFFFF counts as four octets.
+/// How many octets [`write_next`] appends, at most 2,052 for a command that isn't long. A delta over 0x0FFFFFFF counts as
+/// four octets.
 #[tactic(auto, unfolding(crate::specs::Section::piece))]
 pub fn next_len(place: Place, delta: u64, command: &Command) -> usize
     ensures value { result ≡ length (piece place record { delta = delta; command = command.now }) }
-    ensures bound { result ≤ 2052 }
+    ensures bound { result ≤ 65542 }
+    ensures whole { is_long command.now ≡ false → result ≤ 2052 }
 {
     match place {
         Place::First => command.size(),

@@ -3,13 +3,13 @@
 ghost use Rattle.std.specs.Prelude.{◌≡◌, ◌+◌, ◌<◌, ◌≤◌, ◌∷◌, length, take, drop, None, Ok, Err, IfOk, IfErr, IfSome};
 ghost use Rattle.jm_cmds.specs.Gives.{Gives};
 ghost use Rattle.jm_cmds.specs.Reading.{command_read};
-ghost use Rattle.jm_section.specs.Grammar.{running_behind, Read, IsSection};
+ghost use Rattle.jm_section.specs.Grammar.{Read, IsSection};
 ghost use Rattle.jm_section.specs.Faults.{IsFault, IsTold};
 ghost use Rattle.jm_section.specs.Reading.{GivesBy, head_of, whole, place_less, under_running, exclusive_read, delta_read, what_read, item_read, items_read, head_read, section_read, section_view};
 
 use crate::header::read_head;
 use crate::item::{Item, PartKind, What};
-use crate::next::running_after;
+use crate::next::running_behind;
 use jm_cmds::{CmdFault, Command, ReadError, Sysex, data_len, read_command};
 use jm_wire::{behind, read_delta};
 use std::alloc::Global;
@@ -114,7 +114,8 @@ fn exclusive(
     place: usize,
     alloc: Global,
 ) -> Result<(What, usize), ReadError<SectionFault>>
-    requires { 0 < length b.now }
+    requires some { 0 < length b.now }
+    requires few { length b.now ≤ 4097 }
     ensures value { Gives result (exclusive_read place b.now) }
     ensures bound { IfOk result (λ r. r.1 ≤ length b.now) }
 {
@@ -133,8 +134,6 @@ fn exclusive(
         0xf7 => {
             if b[0] == 0xf7 {
                 PartKind::Last
-            } else if count > Sysex::MOST {
-                return Ok((What::Passed(0xf0), count + 2));
             } else {
                 return whole(b, place, alloc);
             }
@@ -144,13 +143,8 @@ fn exclusive(
             return Err(ReadError::Fault(SectionFault::BadCommand(place, fault)));
         }
     };
-    Ok((
-        What::Part {
-            kind,
-            octets: count,
-        },
-        count + 2,
-    ))
+    let octets = Sysex::of(&rest[..count], alloc)?;
+    Ok((What::Part { kind, octets }, count + 2))
 }
 
 /// What begins with these octets, which stand at `place`, and the number of its octets.
@@ -161,7 +155,8 @@ fn read_what(
     running: Option<u8>,
     alloc: Global,
 ) -> Result<(What, usize), ReadError<SectionFault>>
-    requires { 0 < length b.now }
+    requires some { 0 < length b.now }
+    requires few { length b.now ≤ 4097 }
     ensures value { Gives result (what_read place running b.now) }
     ensures bound { IfOk result (λ r. r.1 ≤ length b.now) }
 {
@@ -196,7 +191,7 @@ fn read_item(
     running: Option<u8>,
     alloc: Global,
 ) -> Result<Option<(Item, usize)>, ReadError<SectionFault>>
-    requires { place ≤ 4097 }
+    requires { place + length b.now ≤ 4097 }
     ensures value { Gives result (item_read place bare running b.now) }
     ensures bound { IfOk result (λ next. IfSome next (λ r. r.1 ≤ length b.now)) }
 {
@@ -212,17 +207,6 @@ fn read_item(
     }
     let (what, used) = read_what(&b[lead..], place + lead, running, alloc)?;
     Ok(Some((Item { delta, what }, lead + used)))
-}
-
-/// The running status behind an entry of a list.
-fn running_behind(running: Option<u8>, what: &What) -> Option<u8>
-    ensures { result ≡ running_behind running what.now }
-{
-    match what {
-        What::Whole(command) => running_after(running, command.status()),
-        What::Part { .. } => None,
-        What::Passed(octet) => running_after(running, *octet),
-    }
 }
 
 /// The entries of a MIDI list that stands at `place`.

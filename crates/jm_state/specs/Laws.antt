@@ -1,5 +1,5 @@
 -- What the laws of this crate say.
-use Rattle.std.specs.Prelude.{◌≡◌, ℕ, ◌<◌, ◌≤◌, Bool, false, List, Some, None, length, filter}
+use Rattle.std.specs.Prelude.{◌≡◌, ℕ, ◌<◌, ◌≤◌, Bool, true, false, List, Some, None, length, filter}
 use Rattle.jm_cmds.specs.declared.param.Param.{Param}
 use Rattle.jm_cmds.specs.Param.{same_param}
 use Rattle.jm_cmds.specs.declared.history.Sent.{Sent}
@@ -9,6 +9,7 @@ use Rattle.jm_cmds.specs.Sent.{packet_of}
 use Rattle.jm_state.specs.declared.entered.Entry.{Entry}
 use Rattle.jm_state.specs.Entered.{halves_in, half_set, is_other, entered_with}
 use Rattle.jm_cmds.specs.declared.commands.Command.{Command}
+use Rattle.jm_cmds.specs.Command.{is_long}
 use Rattle.jm_state.specs.declared.state.State.{State}
 use Rattle.jm_state.specs.Parts.{no_state, pedal_of}
 use Rattle.jm_state.specs.Apply.{applied}
@@ -26,6 +27,10 @@ pub record StaysWhole : Type 0 where
 -- Controls 0 and 32, and the toggles Control 64, with which they are the channel's sustain pedal.
 abbrev pub ByPart : Type 0
 ByPart = (s : State) (command : Command) → IsState s → AppliesByPart s command
+
+-- A long command sets no part, counts for none and drops none: the state behind it is the one before.
+abbrev pub LongSetsNothing : Type 0
+LongSetsNothing = (s : State) (command : Command) → is_long command ≡ true → applied s command ≡ s
 
 -- Each call that sets a part leaves each other part as it is, and the part reads as it was set.
 pub record SetsParts (s : State) : Type 0 where

@@ -12,6 +12,7 @@ pub mod PartLaws
 pub mod KeptLaws
 pub mod ParamLaws
 pub mod SettingLaws
+pub mod LongState
 pub mod Replay
 pub mod Final
 pub mod ReplayLaws

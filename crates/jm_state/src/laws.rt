@@ -1,7 +1,7 @@
 //! What holds of the definitions that this crate's contracts cite. Each law is the contract of a
 //! function that does nothing.
 
-ghost use Rattle.jm_state.specs.Laws.{StaysWhole, ByPart, SetsOnePart, EntersLast, CommandsPlayAgain, CountsToggles};
+ghost use Rattle.jm_state.specs.Laws.{StaysWhole, ByPart, LongSetsNothing, SetsOnePart, EntersLast, CommandsPlayAgain, CountsToggles};
 
 /// A state has 16 channels, each with its tables, as a session begins and behind each command. All laws
 /// speak of such states.
@@ -15,6 +15,12 @@ pub fn stays_whole()
 #[tactic(auto, using(crate::specs::PartLaws::by_part))]
 pub fn applies_by_part()
     ensures { ByPart }
+{}
+
+/// A System Exclusive message that is sent in segments leaves every part as it is.
+#[tactic(auto, using(crate::specs::LongState::long_sets_nothing))]
+pub fn long_sets_nothing()
+    ensures { LongSetsNothing }
 {}
 
 /// Each call that sets a part leaves each other part as it is, and the part reads as it was set. Of
