@@ -1,10 +1,10 @@
 -- What each call answers in a session: each refusal exactly where it comes, in the calls' order. `room` says
 -- whether a step may still be taken, and `events` how many a tape takes.
-use Rattle.std.specs.Prelude.{ℕ, ◌+◌, ◌-◌, ◌≡◌, Bool, true, false, ◌==◌, ◌||◌, not, if◌then◌else◌, nat_lt, nat_le, List, [], ◌∷◌, ◌++◌, length, Option, Some, None}
+use Rattle.std.specs.Prelude.{ℕ, ◌+◌, ◌-◌, Bool, true, false, ◌||◌, ◌&&◌, not, if◌then◌else◌, nat_lt, nat_le, List, [], ◌∷◌, ◌++◌, length, Option, Some, None}
 use Rattle.std.specs.List.{filter_map}
 use Rattle.jm_cmds.specs.declared.commands.Command.{Command}
 use Rattle.jm_cmds.specs.declared.commands.Command.TheVariants.{Sysex}
-use Rattle.jm_cmds.specs.declared.history.Sent.{Sent}
+use Rattle.jm_cmds.specs.Command.{is_long}
 use Rattle.jm_cmds.specs.Data.{is_kept_message}
 use Rattle.jm_edge.specs.declared.Addr.{Addr}
 use Rattle.apple_msg.specs.declared.message.Message.{Message}
@@ -44,10 +44,15 @@ use Rattle.jm_book.specs.declared.answers.Said.{Said}
 use Rattle.jm_book.specs.declared.answers.Said.TheVariants as said
 use Rattle.jm_book.specs.Participants.{find_joined, is_member, has_slot, free_slot, most_joined, report_of, slowest, checkpoint_at}
 use Rattle.jm_book.specs.Members.{Members, members_after, outcome_of}
+use Rattle.jm_book.specs.Segments.{Segment, first_segment, message_of, part_of, text_of}
 use Rattle.jm_book.specs.Stream.{Stream, tick_after, sent_of, pending_of}
 use Rattle.jm_book.specs.Session.{Session, checkpoint_of}
 use Rattle.jm_book.specs.Pending.{timed_of, last_tick}
-use Rattle.jm_section.specs.Section.{list_text}
+use Rattle.jm_section.specs.declared.item.Item.{Item}
+use Rattle.jm_section.specs.declared.item.What.{What}
+use Rattle.jm_section.specs.declared.item.What.TheVariants.{Whole}
+use Rattle.jm_section.specs.declared.next.Place.TheVariants.{First}
+use Rattle.jm_section.specs.Section.{items_of, items_text}
 use Rattle.jm_journal.specs.declared.fits.Fit.{Fit}
 use Rattle.jm_journal.specs.declared.fits.Fit.TheVariants as fit
 use Rattle.jm_journal.specs.Limits.{fit_of}
@@ -172,23 +177,33 @@ is_known members player =
 abbrev pub delta_with : Stream → (tick : ℕ) → ℕ
 delta_with stream tick = tick_after stream tick - last_tick (tick_after stream tick) (pending_of stream)
 
--- the pending commands with one more
-abbrev pub pending_with : Stream → Command → (tick : ℕ) → List Sent
-pending_with stream command tick =
-    pending_of stream ++ record { packet = length stream.packets; tick = tick_after stream tick; command = command } ∷ []
+-- what a list has of a command: the first segment of a long one, else the whole
+abbrev pub what_of : Command → What
+what_of command = if is_long command then part_of (first_segment (message_of command)) else Whole command
 
--- the length of their MIDI list
+-- the MIDI list of the pending commands with one more
+abbrev pub items_with : Stream → Command → (tick : ℕ) → List Item
+items_with stream command tick = items_of (timed_of (pending_of stream)) ++ record { delta = delta_with stream tick; what = what_of command } ∷ []
+
+-- its length
 abbrev pub list_with : Stream → Command → (tick : ℕ) → ℕ
-list_with stream command tick = length (list_text (timed_of (pending_with stream command tick)))
+list_with stream command tick = length (items_text First (items_with stream command tick))
+
+-- a long command stands behind no other: its segments have packets of their own
+abbrev pub is_behind_others : Command → (pending : ℕ) → Bool
+is_behind_others command pending = is_long command && nat_lt 0 pending
 
 -- the limits of what may be pending: 256 commands, a MIDI list of 4,095 octets, a delta of four octets
-abbrev pub needs_cut : (pending octets delta : ℕ) → Bool
-needs_cut pending octets delta = nat_le 256 pending || nat_lt 4095 octets || nat_lt 0x0FFFFFFF delta
+abbrev pub needs_cut : (behind : Bool) (pending octets delta : ℕ) → Bool
+needs_cut behind pending octets delta = behind || nat_le 256 pending || nat_lt 4095 octets || nat_lt 0x0FFFFFFF delta
 
-abbrev pub cut_refusal : (pending octets delta : ℕ) → Option PlayFault
-cut_refusal pending octets delta =
-    if needs_cut pending octets delta then Some (refusal.NeedsCut pending octets delta)
+-- While a segment waits each play needs a cut: the numbers are then how many wait, and the length of the next one.
+abbrev pub cut_refusal : (waiting : List Segment) (behind : Bool) (pending octets delta : ℕ) → Option PlayFault
+cut_refusal [] behind pending octets delta =
+    if needs_cut behind pending octets delta then Some (refusal.NeedsCut pending octets delta)
     else None
+cut_refusal (segment ∷ others) behind pending octets delta =
+    Some (refusal.NeedsCut (length (segment ∷ others)) (length (text_of segment)) 0)
 
 -- a command that doesn't fit behind the sent and pending ones, were they all sent
 abbrev pub fit_refusal : Fit → Option PlayFault
@@ -215,7 +230,7 @@ members_play room events members player answer cut =
 abbrev pub refusal_in : (room : Bool) (events : ℕ) → Session → (player : ℕ) → Command → (tick : ℕ) → Option PlayFault
 refusal_in room events session player command tick =
     members_play room events session.members player (fit_after session command)
-    (cut_refusal (length session.stream.pending) (list_with session.stream command tick) (delta_with session.stream tick))
+    (cut_refusal session.stream.waiting (is_behind_others command (length session.stream.pending)) (length session.stream.pending) (list_with session.stream command tick) (delta_with session.stream tick))
 
 -- a SysEx of over 254 data octets is sent and not kept for repair
 abbrev pub is_kept : Command → Bool

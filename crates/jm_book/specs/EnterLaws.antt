@@ -1,13 +1,12 @@
 -- The local players are as many as steps say that one entered.
-use Rattle.std.proofs.Common.{ℕ, ◌+◌, ◌<◌, ◌≤◌, ◌≡◌, refl, sym, ap, subst, ◌∙◌, Bool, true, false, List, [], ◌∷◌, fold, arith}
+use Rattle.std.proofs.Common.{ℕ, ◌+◌, ◌<◌, ◌≡◌, refl, sym, ◌∙◌, Bool, true, false, List, [], ◌∷◌, fold, arith}
 use Rattle.std.specs.Prelude.{not, nat_le, if◌then◌else◌}
 use Rattle.std.proofs.lemmas.Bool.Decides.{nat_tests}
 use Rattle.jm_book.specs.declared.answers.Entered.TheVariants as entered
 use Rattle.jm_book.specs.declared.steps.Config.{Config}
 use Rattle.jm_book.specs.declared.steps.Step.{Step}
 use Rattle.jm_book.specs.declared.steps.Step.TheVariants.{Enter, Play, Cut, Ack, Join, Leave, Hear, Feedback, Say}
-use Rattle.jm_book.specs.Session.{Session, session_of, members_of, after, nothing}
-use Rattle.jm_book.specs.Answers.{members_enter}
+use Rattle.jm_book.specs.Session.{Session, members_of, after, nothing}
 use Rattle.jm_book.specs.BookAnswers.{has_room}
 use Rattle.jm_book.specs.InvitedLaws.{legal_sound}
 use Rattle.jm_book.specs.MembersConduct.{enter_count, CountsPlayers}

@@ -1,12 +1,12 @@
 -- The participants of a session: their marks, their SSRCs and their slots, where one changes, joins or leaves.
-use Rattle.std.proofs.Common.{◌≢◌, ◌++◌, ℕ, zero, suc, ◌+◌, ◌<◌, ◌≤◌, ◌≡◌, refl, ap, sym, ◌∙◌, true, false, Bool, List, [], ◌∷◌, Some, map, length, inl, inr, arith}
+use Rattle.std.proofs.Common.{◌≢◌, ◌++◌, ℕ, zero, suc, ◌+◌, ◌<◌, ◌≤◌, ◌≡◌, refl, ap, true, false, List, [], ◌∷◌, Some, map, length, inl, inr, arith}
 use Rattle.std.specs.Prelude.{nat_eq, nat_le, ◌==◌, is_some}
 use Rattle.std.specs.List.{AllByRecursion, IsDistinct, filter, list_any}
 use Rattle.std.specs.Cmp.{nat_eq_equiv}
 use Rattle.std.proofs.lemmas.Bool.{cases_Bool, eqb-true}
 use Rattle.std.proofs.lemmas.Bool.Decides.{nat_tests}
 use Rattle.jm_book.specs.declared.participants.Participant.{Participant}
-use Rattle.jm_book.specs.Participants.{find_joined, is_member, has_slot, free_from, free_slot, changed, moved, noted, others_than, ssrcs_of, slots_of}
+use Rattle.jm_book.specs.Participants.{find_joined, is_member, has_slot, free_from, free_slot, changed, moved, others_than, ssrcs_of, slots_of}
 
 -- ---- one that changes
 

@@ -1,5 +1,5 @@
 -- What holds of the participants after legal steps, and of the checkpoint along them.
-use Rattle.std.proofs.Common.{ℕ, ◌+◌, ◌-◌, ◌<◌, ◌≤◌, ◌≡◌, refl, sym, ap, Bool, true, false, List, [], ◌∷◌, ◌++◌, Option, Some, None, map, length, length-append, arith, inl, inr, ◌∙◌}
+use Rattle.std.proofs.Common.{ℕ, ◌+◌, ◌-◌, ◌<◌, ◌≤◌, ◌≡◌, refl, Bool, true, false, List, [], ◌∷◌, ◌++◌, Option, Some, None, length, length-append, arith, inl, inr}
 use Rattle.std.specs.Prelude.{nat_eq, nat_lt, ◌||◌}
 use Rattle.std.specs.List.{AllByRecursion, IsDistinct}
 use Rattle.std.specs.Cmp.{nat_eq_equiv}
@@ -20,7 +20,7 @@ use Rattle.jm_book.specs.declared.steps.Step.TheVariants.{Enter, Play, Cut, Ack,
 use Rattle.jm_book.specs.declared.marks.Report.{Report}
 use Rattle.jm_book.specs.declared.marks.Report.TheVariants as report
 use Rattle.jm_book.specs.declared.participants.Participant.{Participant}
-use Rattle.jm_book.specs.Participants.{find_joined, is_member, most_joined, reaches, report_of, marked_by, with_report_of, with_joiner, moved, noted, others_than, distance, free_slot, checkpoint_at, ssrcs_of, slots_of, length_changed}
+use Rattle.jm_book.specs.Participants.{find_joined, is_member, most_joined, report_of, marked_by, with_report_of, with_joiner, moved, noted, others_than, free_slot, checkpoint_at, ssrcs_of, slots_of, length_changed}
 use Rattle.jm_book.specs.Members.{Members, has_room_for, is_named_member, outcome_of, carried_out}
 use Rattle.jm_book.specs.Stream.{next_packet}
 use Rattle.jm_book.specs.Session.{Session, session_of, after, nothing, checkpoint_of}

@@ -6,6 +6,7 @@ pub mod CommandLaws
 pub mod Commands
 pub mod Core
 pub mod EnterLaws
+pub mod InTurnLaws
 pub mod InvitedLaws
 pub mod JoinedLaws
 pub mod Kept
@@ -27,8 +28,10 @@ pub mod PeersConduct
 pub mod Pending
 pub mod PlayLaws
 pub mod Plays
-pub mod SayLaws
 pub mod RoomLaws
+pub mod SayLaws
+pub mod SegmentLaws
+pub mod Segments
 pub mod Session
 pub mod SlowestLaws
 pub mod SoundLaws
@@ -40,3 +43,6 @@ pub mod StreamLaws
 pub mod TakenLaws
 pub mod Tape
 pub mod TickLaws
+pub mod Unsent
+pub mod Waiting
+pub mod WaitingLaws

@@ -1,5 +1,5 @@
 -- The members of a session: the host with its peers, the local players, and the joined participants.
-use Rattle.std.specs.Prelude.{ℕ, ◌+◌, Bool, true, false, ◌||◌, if◌then◌else◌, nat_lt, List, [], length, Option, Some, None}
+use Rattle.std.specs.Prelude.{ℕ, ◌+◌, Bool, false, ◌||◌, if◌then◌else◌, nat_lt, List, [], length, Option, Some, None}
 use Rattle.jm_edge.specs.declared.Addr.{Addr}
 use Rattle.apple_msg.specs.declared.message.Message.{Message}
 use Rattle.apple_session.specs.declared.answer.PortKind.{PortKind}

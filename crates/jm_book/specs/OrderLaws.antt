@@ -5,7 +5,7 @@ use Rattle.jm_cmds.specs.History.{InOrder}
 use Rattle.jm_cmds.specs.HistoryLaws.{AllByRecursion-weaker, AllByRecursion-append, InOrder-append}
 use Rattle.jm_cmds.specs.Sent.{packet_of}
 use Rattle.jm_book.specs.declared.steps.Step.{Step}
-use Rattle.jm_book.specs.Stream.{Stream, Entry, Packet, stream_of, as_sent, sent_from, sent_of, pending_of}
+use Rattle.jm_book.specs.Stream.{Stream, Entry, Packet, stream_of, as_sent, sent_from, sent_of, pending_of, number_of_pending}
 
 -- the commands of one packet have its number
 pub as_sent_all : (P : ℕ → Type 0) (number : ℕ) (entries : List Entry) → P number → AllByRecursion (λ one. P (packet_of one)) (as_sent number entries)
@@ -46,6 +46,6 @@ sent_below_next stream = sent_from_below 0 stream.packets (length stream.packets
 -- nor along the sent commands and those pending
 pub all_in_order : (stream : Stream) → InOrder packet_of (sent_of stream ++ pending_of stream)
 all_in_order stream =
-    let next = length stream.packets in
-    let sent = AllByRecursion-weaker (λ one. packet_of one + 1 ≤ next) (λ one. packet_of one ≤ next) (λ one l. omega arith) (sent_of stream) (sent_below_next stream) in
+    let next = number_of_pending stream in
+    let sent = AllByRecursion-weaker (λ one. packet_of one + 1 ≤ length stream.packets) (λ one. packet_of one ≤ next) (λ one l. omega arith) (sent_of stream) (sent_below_next stream) in
     InOrder-append packet_of next (sent_of stream) (pending_of stream) (sent_from_in_order 0 stream.packets) sent (as_sent_all (λ packet. next ≤ packet) next stream.pending (omega arith)) (as_sent_in_order next stream.pending)

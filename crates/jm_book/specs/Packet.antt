@@ -1,11 +1,12 @@
 -- The octets of the packet that a cut makes.
 use Rattle.std.proofs.Common.{refl}
-use Rattle.std.specs.Prelude.{◌≡◌, ℕ, ◌%◌, ◌^◌, Bool, true, false, List, [], ◌++◌, length, nat_lt, if◌then◌else◌}
+use Rattle.std.specs.Prelude.{◌≡◌, ℕ, ◌%◌, ◌^◌, Bool, true, false, List, [], ◌++◌, length, nat_lt, Option, Some, None, if◌then◌else◌}
 use Rattle.jm_cmds.specs.declared.history.Sent.{Sent}
 use Rattle.jm_packet.specs.declared.header.Header.{Header}
 use Rattle.jm_packet.specs.Header.{header}
 use Rattle.jm_section.specs.Section.{list_text, header as section_header}
 use Rattle.jm_journal.specs.Journal.{journal, HasShortParts}
+use Rattle.jm_book.specs.Segments.{Segment, text_of}
 use Rattle.jm_book.specs.Stream.{next_packet, next_of, sent_of}
 use Rattle.jm_book.specs.Session.{Session, checkpoint_of}
 use Rattle.jm_book.specs.Pending.{timed_of}
@@ -34,11 +35,16 @@ packet_text ssrc checkpoint number tick list sent =
     ++ (section_header (length list) (has_journal number) ++ list)
     ++ journal_of checkpoint number tick sent
 
+-- the MIDI list of a packet: its segment, where it holds one, else its commands
+abbrev pub list_of : Option Segment → List Sent → List ℕ
+list_of None sent = list_text (timed_of sent)
+list_of (Some segment) sent = text_of segment
+
 -- the packet that a cut at this tick makes
 abbrev pub packet_of : Session → (tick : ℕ) → List ℕ
 packet_of session tick =
     packet_text session.members.host.ssrc (checkpoint_of session) (length session.stream.packets)
-    (next_packet session.stream tick).packet.tick (list_text (timed_of (next_of session.stream tick))) (sent_of session.stream)
+    (next_packet session.stream tick).packet.tick (list_of (next_packet session.stream tick).packet.part (next_of session.stream tick)) (sent_of session.stream)
 
 pub journal_of_some : (checkpoint number tick : ℕ) (sent : List Sent) → has_journal number ≡ true → journal_of checkpoint number tick sent ≡ journal checkpoint number tick sent
 unfolding journal_of

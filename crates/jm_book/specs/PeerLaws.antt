@@ -1,9 +1,9 @@
 -- The peers of a session are the machine's, and one that is taken out is gone.
-use Rattle.std.proofs.Common.{ℕ, ◌≡◌, ◌≢◌, refl, sym, ap, subst, ◌∙◌, inl, inr, Bool, true, false, List, [], ◌∷◌, ◌++◌, Option, Some, None, length, fold, append_assoc}
+use Rattle.std.proofs.Common.{ℕ, ◌≡◌, refl, sym, ap, subst, ◌∙◌, inl, inr, Bool, true, false, List, [], ◌∷◌, Option, Some, None, length, fold}
 use Rattle.std.specs.Prelude.{◌==◌, ◌&&◌, nat_eq, All}
 use Rattle.std.specs.List.{AllByRecursion, IsDistinct}
 use Rattle.std.specs.Cmp.{nat_eq_equiv}
-use Rattle.std.proofs.lemmas.Bool.{cases_Bool, eqb-true, eqb-false}
+use Rattle.std.proofs.lemmas.Bool.{cases_Bool, eqb-true}
 use Rattle.std.proofs.lemmas.List.Sums.{fold-append}
 use Rattle.jm_edge.specs.declared.Addr.{Addr}
 use Rattle.apple_msg.specs.declared.message.Message.{Message}
@@ -11,7 +11,7 @@ use Rattle.apple_session.specs.declared.peer.Peer.{Peer}
 use Rattle.apple_session.specs.declared.answer.PortKind.{PortKind}
 use Rattle.apple_session.specs.declared.answer.Act.{Act}
 use Rattle.apple_session.specs.declared.answer.Act.TheVariants as act
-use Rattle.apple_session.specs.Conduct.{Call, after_call, peers_after, ssrc_of, takes_part, is_joined_one, CameByInvitation}
+use Rattle.apple_session.specs.Conduct.{Call, after_call, ssrc_of, is_joined_one, CameByInvitation}
 use Rattle.apple_session.specs.Host.{Host}
 use Rattle.apple_session.specs.Others.{peer_of-without, peer_of-without_own}
 use Rattle.apple_session.specs.Peers.{IsOrderly}
@@ -23,21 +23,19 @@ use Rattle.jm_book.specs.declared.marks.Report.TheVariants as report
 use Rattle.jm_book.specs.declared.answers.Acted.{Acted}
 use Rattle.jm_book.specs.declared.answers.Acted.TheVariants as acted
 use Rattle.jm_book.specs.declared.answers.Said.TheVariants as said
-use Rattle.jm_book.specs.declared.steps.Config.{Config}
 use Rattle.jm_book.specs.declared.steps.Step.{Step}
 use Rattle.jm_book.specs.declared.steps.Step.TheVariants.{Enter, Play, Cut, Ack, Join, Leave, Hear, Feedback, Say}
 use Rattle.jm_book.specs.Participants.{find_joined, is_member, others_than, report_of, ssrcs_of}
 use Rattle.jm_book.specs.Members.{has_room_for, outcome_of}
-use Rattle.jm_book.specs.Session.{Session, session_of, members_of, after, nothing}
+use Rattle.jm_book.specs.Session.{Session, session_of, after, nothing}
 use Rattle.jm_book.specs.Answers.{acted_of, acted_as, reported, say_in}
-use Rattle.jm_book.specs.Legal.{IsTaken, IsLegal}
 use Rattle.jm_book.specs.AloneLaws.{leaves_named}
 use Rattle.jm_book.specs.InvitedLaws.{legal_sound, part_along}
 use Rattle.jm_book.specs.LegalJoined.{legal_participate}
 use Rattle.jm_book.specs.LegalLaws.{taken_apart}
 use Rattle.jm_book.specs.StepLaws.{session_push}
 use Rattle.jm_book.specs.MembersConduct.{names, is_left_answer, takes_out}
-use Rattle.jm_book.specs.PeersConduct.{call_of, calls_from, calls_of, ComeByInvitation, PeersCome, PartsStay, IsOut, LeaversGo, DropsPeer, LeaveDropsPeer}
+use Rattle.jm_book.specs.PeersConduct.{call_of, calls_from, calls_of, PeersCome, PartsStay, IsOut, LeaversGo, DropsPeer, LeaveDropsPeer}
 
 -- ---- the peers are the machine's
 

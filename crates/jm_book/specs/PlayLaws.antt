@@ -1,5 +1,5 @@
 -- Each play stands in one packet or is pending, in order.
-use Rattle.std.proofs.Common.{ℕ, suc, ◌+◌, ◌≡◌, refl, ap, sym, ◌∙◌, true, false, List, [], ◌∷◌, ◌++◌, map, length, fold, arith, append_assoc, append-nil, add_comm, add-one}
+use Rattle.std.proofs.Common.{ℕ, suc, ◌+◌, ◌≡◌, refl, ap, sym, ◌∙◌, true, false, List, [], ◌∷◌, ◌++◌, map, fold, arith, append_assoc, append-nil, add_comm, add-one}
 use Rattle.std.specs.List.{flat_map, filter, range_with_len}
 use Rattle.std.specs.Prelude.{max, ◌==◌, if◌then◌else◌}
 use Rattle.std.proofs.Math.Nat.{max-zero, max_comm}
@@ -9,7 +9,8 @@ use Rattle.std.proofs.lemmas.List.Sums.{sum_by-append, sum_by_push}
 use Rattle.jm_cmds.specs.declared.commands.Command.{Command}
 use Rattle.jm_book.specs.declared.steps.Step.{Step}
 use Rattle.jm_book.specs.declared.steps.Step.TheVariants.{Enter, Play, Cut, Ack, Join, Leave, Hear, Feedback, Say}
-use Rattle.jm_book.specs.Stream.{Stream, Entry, Packet, stream_of, stream_after, no_stream, next_packet, tick_after, as_sent, sent_from, sent_of, pending_of}
+use Rattle.jm_book.specs.Stream.{Stream, Entry, Packet, stream_of, stream_after, no_stream, next_packet, tick_after, as_sent, sent_from, sent_of, pending_of, number_of_pending, entries_left}
+use Rattle.jm_book.specs.StepLaws.{entries_cut}
 use Rattle.jm_book.specs.Plays.{is_play, play_count, given_tick, greatest_tick, play_at, plays_after, plays_of, played_by, entries_of, sent_pair, entry_pair}
 
 max_assoc : (a b c : ℕ) → max a (max b c) ≡ max (max a b) c
@@ -56,8 +57,14 @@ entries_after before (Play player command tick) s h =
     (sym (append_assoc (flat_map (λ (packet : Packet). packet.entries) s.packets) s.pending (record { player = player; serial = s.plays; tick = tick_after s tick; command = command } ∷ [])))
 entries_after before (Cut tick) s h =
     let cut : Packet = (next_packet s tick).packet in
-    ap (λ (entries : List Entry). entries ++ []) (flat_map-append (λ (packet : Packet). packet.entries) s.packets (cut ∷ [])
-    ∙ ap (λ (entries : List Entry). flat_map (λ (packet : Packet). packet.entries) s.packets ++ entries) (append-nil s.pending))
+    let sent : List Entry = flat_map (λ (packet : Packet). packet.entries) s.packets in
+    let left : List Entry = entries_left s.waiting s.pending in
+    let pushed : flat_map (λ (packet : Packet). packet.entries) (s.packets ++ cut ∷ []) ≡ sent ++ cut.entries =
+    flat_map-append (λ (packet : Packet). packet.entries) s.packets (cut ∷ []) ∙ ap (λ (entries : List Entry). sent ++ entries) (append-nil cut.entries) in
+    ap (λ (entries : List Entry). entries ++ left) pushed
+    ∙ append_assoc sent cut.entries left
+    ∙ ap (λ (entries : List Entry). sent ++ entries) (entries_cut s.waiting s.pending)
+    ∙ sym (append-nil (entries_of s))
 entries_after before (Ack ssrc seq) s h = sym (append-nil (entries_of s))
 entries_after before (Join ssrc) s h = sym (append-nil (entries_of s))
 entries_after before (Leave ssrc) s h = sym (append-nil (entries_of s))
@@ -136,4 +143,4 @@ sent_from_is number (one ∷ others) =
 
 pub sent_are_entries : (s : Stream) → map sent_pair (sent_of s ++ pending_of s) ≡ map entry_pair (entries_of s)
 sent_are_entries s =
-    rw (map-append sent_pair (sent_of s) (pending_of s), map-append entry_pair (flat_map (λ (packet : Packet). packet.entries) s.packets) s.pending, as_sent_is (length s.packets) s.pending, sent_from_is 0 s.packets) refl
+    rw (map-append sent_pair (sent_of s) (pending_of s), map-append entry_pair (flat_map (λ (packet : Packet). packet.entries) s.packets) s.pending, as_sent_is (number_of_pending s) s.pending, sent_from_is 0 s.packets) refl

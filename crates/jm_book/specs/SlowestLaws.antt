@@ -9,11 +9,10 @@ use Rattle.jm_cmds.specs.HistoryLaws.{AllByRecursion-weaker, AllByRecursion-appe
 use Rattle.jm_book.specs.declared.participants.Participant.{Participant}
 use Rattle.jm_book.specs.declared.answers.Cutted.{Cutted}
 use Rattle.jm_book.specs.declared.answers.Cutted.TheVariants as cutted
-use Rattle.jm_book.specs.declared.steps.Config.{Config}
 use Rattle.jm_book.specs.declared.steps.Step.{Step}
 use Rattle.jm_book.specs.declared.steps.Step.TheVariants.{Leave}
 use Rattle.jm_book.specs.Participants.{is_member, others_than, least_mark, slowest, mark_or, checkpoint_at}
-use Rattle.jm_book.specs.Stream.{Stream, stream_of, last_sent}
+use Rattle.jm_book.specs.Stream.{Stream, last_sent}
 use Rattle.jm_book.specs.Session.{Session, session_of, after, session_stream}
 use Rattle.jm_book.specs.Answers.{is_behind, behind_or_sent, cut_in}
 use Rattle.jm_book.specs.BookAnswers.{has_room}

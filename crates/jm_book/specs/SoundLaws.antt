@@ -1,6 +1,6 @@
 -- What holds of the members at any time: each step keeps it.
-use Rattle.std.proofs.Common.{◌≡◌, ◌≢◌, ℕ, ◌+◌, ◌-◌, ◌<◌, ◌≤◌, Bool, true, false, List, [], ◌∷◌, ◌++◌, Option, Some, None, refl, sym, ap, subst, ◌∙◌, length, length-append, arith, inl, inr}
-use Rattle.std.specs.Prelude.{◌==◌, is_some}
+use Rattle.std.proofs.Common.{◌≡◌, ◌≢◌, ℕ, ◌+◌, ◌-◌, ◌<◌, ◌≤◌, true, false, List, [], ◌∷◌, ◌++◌, Option, Some, None, refl, sym, ap, ◌∙◌, length, length-append, arith, inl, inr}
+use Rattle.std.specs.Prelude.{◌==◌}
 use Rattle.std.proofs.lemmas.Bool.{cases_Bool, eqb-true, eqb-false}
 use Rattle.jm_edge.specs.declared.Addr.{Addr}
 use Rattle.apple_msg.specs.declared.message.Message.{Message}
@@ -9,17 +9,16 @@ use Rattle.apple_session.specs.declared.answer.PortKind.{PortKind}
 use Rattle.apple_session.specs.declared.answer.Act.{Act}
 use Rattle.apple_session.specs.declared.answer.Act.TheVariants as act
 use Rattle.apple_session.specs.Peers.{peer_of, without, IsOrderly}
-use Rattle.apple_session.specs.Machine.{Outcome, step}
 use Rattle.apple_session.specs.Conduct.{is_joined_one, takes_part, Tells, ActsTell}
 use Rattle.apple_session.specs.Others.{peer_of-without, peer_of-without_own, step_orderly}
 use Rattle.jm_book.specs.declared.steps.Step.TheVariants.{Say}
 use Rattle.jm_book.specs.declared.marks.Report.{Report}
 use Rattle.jm_book.specs.declared.marks.Report.TheVariants as report
 use Rattle.jm_book.specs.declared.participants.Participant.{Participant}
-use Rattle.jm_book.specs.Participants.{find_joined, is_member, most_joined, with_joiner, with_report, with_report_of, marked_by, report_of, moved, noted, others_than, free_slot, length_changed}
+use Rattle.jm_book.specs.Participants.{find_joined, is_member, most_joined, with_joiner, with_report_of, marked_by, report_of, noted, others_than, free_slot, length_changed}
 use Rattle.jm_book.specs.Members.{Members, has_room_for, outcome_of, carried_out, said_outcome}
 use Rattle.jm_book.specs.Answers.{acted_of, reported, acted_as, is_acted, is_said, said_of, after_if}
-use Rattle.jm_book.specs.Core.{PeersTakePart, AreSound}
+use Rattle.jm_book.specs.Core.{AreSound}
 use Rattle.jm_book.specs.JoinedLaws.{member_changed, member_push, find_others, find_push, others_length}
 use Rattle.jm_book.specs.TakenLaws.{Joins}
 use Rattle.jm_book.specs.LegalJoined.{said_joins}

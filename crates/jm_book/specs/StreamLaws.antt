@@ -1,24 +1,29 @@
 -- The packets of a stream stay, and what is pending is the plays since the last cut.
-use Rattle.std.proofs.Common.{ℕ, ◌+◌, ◌≤◌, ◌≡◌, ◌≢◌, refl, sym, ap, inl, inr, ◌∙◌, Bool, true, false, List, [], ◌∷◌, ◌++◌, Some, None, length, length-append, fold, arith, append_assoc, append-nil}
+use Rattle.std.proofs.Common.{ℕ, ◌+◌, ◌-◌, ◌≤◌, ◌≡◌, ◌≢◌, refl, sym, ap, subst, inl, inr, ◌∙◌, Bool, true, false, List, [], ◌∷◌, ◌++◌, Some, None, length, length-append, take, fold, arith, append_assoc, append-nil}
 use Rattle.std.specs.Prelude.{not, nat_lt, if◌then◌else◌}
 use Rattle.std.specs.List.{slice_get}
 use Rattle.std.proofs.lemmas.Bool.{cases_Bool}
 use Rattle.std.proofs.lemmas.Bool.Decides.{nat_tests}
+use Rattle.std.proofs.lemmas.List.{length-take}
 use Rattle.std.proofs.lemmas.List.Sums.{fold-append}
 use Rattle.jm_cmds.specs.declared.commands.Command.{Command}
-use Rattle.jm_cmds.specs.declared.commands.Command.TheVariants as command
-use Rattle.jm_cmds.specs.Command.{IsCommand, spelling}
-use Rattle.jm_section.specs.Section.{piece}
+use Rattle.jm_cmds.specs.Command.{spelling, is_long}
+use Rattle.jm_cmds.specs.LongLaws.{whole_few}
+use Rattle.jm_section.specs.declared.item.What.{What}
+use Rattle.jm_section.specs.declared.item.What.TheVariants.{Whole}
+use Rattle.jm_section.specs.declared.next.Place.TheVariants.{First}
+use Rattle.jm_section.specs.Section.{command_text, what_text, item_text, items_text}
 use Rattle.jm_journal.specs.declared.fits.Fit.{Fit}
 use Rattle.jm_journal.specs.declared.fits.Fit.TheVariants as fit
 use Rattle.jm_book.specs.declared.answers.Played.TheVariants as played
 use Rattle.jm_book.specs.declared.answers.PlayFault.TheVariants as refusal
 use Rattle.jm_book.specs.declared.steps.Step.{Step}
 use Rattle.jm_book.specs.declared.steps.Step.TheVariants.{Enter, Play, Cut, Ack, Join, Leave, Hear, Feedback, Say}
-use Rattle.jm_book.specs.Stream.{Stream, Packet, stream_of, stream_after, no_stream, played as played_on, cut_off, tick_after, next_packet}
+use Rattle.jm_book.specs.Segments.{Segment, first_segment, message_of, part_of, text_of}
+use Rattle.jm_book.specs.Stream.{Stream, Packet, Entry, stream_of, stream_after, no_stream, played as played_on, cut_off, tick_after, next_packet}
 use Rattle.jm_book.specs.Plays.{is_play, greatest_tick, play_at, plays_after}
 use Rattle.jm_book.specs.Session.{Session}
-use Rattle.jm_book.specs.Answers.{is_known, needs_cut, cut_refusal, fit_after, fit_refusal, or_else, list_with, delta_with, played_as}
+use Rattle.jm_book.specs.Answers.{is_known, what_of, is_behind_others, needs_cut, cut_refusal, fit_after, fit_refusal, or_else, list_with, delta_with, played_as}
 use Rattle.jm_book.specs.StepLaws.{stream_push}
 use Rattle.jm_book.specs.PlayLaws.{Counts, counts_after, counts_plays, greatest_tick_push}
 use Rattle.jm_book.specs.StreamConduct.{is_cut, has_cut, cut_count, Begins, SendsPending, LeavesNothing, PendsSinceCut, KeepsPackets, CountsCuts, KeepsStream, PlaysAppend, NeedsNoCut}
@@ -75,7 +80,9 @@ sends_pending before tick later =
     rw (parts, last) (at_length stream.packets packet on.later)
 
 pub leaves_nothing : LeavesNothing
-leaves_nothing before tick = ap (λ (s : Stream). s.pending) (stream_push before (Cut tick))
+leaves_nothing before tick =
+    let cut : stream_of (before ++ Cut tick ∷ []) ≡ cut_off (stream_of before) tick = stream_push before (Cut tick) in
+    record { pending = ap (λ (s : Stream). s.pending) cut; waiting = ap (λ (s : Stream). s.waiting) cut }
 
 -- ---- what is pending
 
@@ -107,9 +114,11 @@ pub pends_since_cut : PendsSinceCut
 pends_since_cut steps none = (
   pending_along [] steps no_stream (record { plays = refl; tick = refl }) none,
   λ before tick.
-      let cut : stream_of (before ++ Cut tick ∷ []) ≡ cut_off (stream_of before) tick = stream_push before (Cut tick) in
       let counts : Counts (before ++ Cut tick ∷ []) (cut_off (stream_of before) tick) = counts_after before (Cut tick) (stream_of before) (counts_plays before) in
-      ap (λ (s : Stream). s.pending) (stream_parts before (Cut tick ∷ steps)) ∙ pending_along (before ++ Cut tick ∷ []) steps (cut_off (stream_of before) tick) counts none,
+      let left = (leaves_nothing before tick).pending in
+      ap (λ (s : Stream). s.pending) (stream_parts before (Cut tick ∷ steps))
+      ∙ pending_along (before ++ Cut tick ∷ []) steps (cut_off (stream_of before) tick) counts none
+      ∙ ap (λ (pending : List Entry). pending ++ plays_after (before ++ Cut tick ∷ []) steps) (sym left),
 )
 
 -- ---- how many packets
@@ -153,51 +162,61 @@ plays_append steps player command tick =
     let stream = stream_of steps in
     let pushed : stream_of (steps ++ Play player command tick ∷ []) ≡ played_on stream player command tick = stream_push steps (Play player command tick) in
     record {
+      waiting = ap (λ (s : Stream). s.waiting) pushed;
       pending = ap (λ (s : Stream). s.pending) pushed ∙ pending_after steps (Play player command tick) stream (counts_plays steps) refl;
       packets = ap (λ (s : Stream). s.packets) pushed;
     }
 
 -- ---- one command has room
 
-short_command : (command : Command) → IsCommand command → length (spelling command) ≤ 2048
-short_command (command.NoteOff channel note velocity) h = omega arith
-short_command (command.NoteOn channel note velocity) h = omega arith
-short_command (command.PolyPressure channel note value) h = omega arith
-short_command (command.Control channel number value) h = omega arith
-short_command (command.Program channel program) h = omega arith
-short_command (command.Pressure channel value) h = omega arith
-short_command (command.Wheel channel first second) h = omega arith
-short_command (command.QuarterFrame value) h = omega arith
-short_command (command.SongPosition value) h = omega arith
-short_command (command.SongSelect song) h = omega arith
-short_command command.TuneRequest h = omega arith
-short_command command.Clock h = omega arith
-short_command command.Start h = omega arith
-short_command command.Continue h = omega arith
-short_command command.Stop h = omega arith
-short_command command.ActiveSensing h = omega arith
-short_command command.SystemReset h = omega arith
-short_command (command.Sysex octets) h = let few = h.few in omega (arith, length-append octets (0xf7 ∷ []))
+-- with nothing pending, one more command is the whole MIDI list, or its first segment is
+item_of_one : (command : Command) (delta : ℕ) → length (items_text First (record { delta = delta; what = what_of command } ∷ [])) ≤ 2048
+unfolding item_text what_text command_text
+item_of_one command delta =
+    let list_size : What → ℕ = λ one. length (items_text First (record { delta = delta; what = one } ∷ [])) in
+    elim (cases_Bool (is_long command)) [
+      | inl long ↦
+          let octets = message_of command in
+          let first = take 2046 octets in
+          let few : length first ≤ 2046 = grind (arith, length-take 2046 octets) in
+          let text : length (text_of (first_segment octets)) ≡ length first + 2 = omega (arith, length-append first (0xf0 ∷ [])) in
+          let whole : list_size (part_of (first_segment octets)) ≡ length (text_of (first_segment octets)) = ap length (append-nil (text_of (first_segment octets))) in
+          let short : list_size (part_of (first_segment octets)) ≤ 2048 = omega (arith, whole, text, few) in
+          let is : what_of command ≡ part_of (first_segment octets) = rw long refl in
+          subst (λ (one : What). list_size one ≤ 2048) (sym is) short
+      | inr whole ↦
+          let size : list_size (Whole command) ≡ length (spelling command) = ap length (append-nil (spelling command)) in
+          let short : list_size (Whole command) ≤ 2048 = omega (arith, size, whole_few command whole) in
+          let is : what_of command ≡ Whole command = rw whole refl in
+          subst (λ (one : What). list_size one ≤ 2048) (sym is) short
+    ]
 
--- with nothing pending, one more command is the whole MIDI list
-list_of_one : (stream : Stream) (command : Command) (tick : ℕ) → stream.pending ≡ [] → list_with stream command tick ≡ length (spelling command)
-unfolding piece
-list_of_one stream command tick none = rw none (ap length (append-nil (spelling command)))
+list_of_one : (stream : Stream) (command : Command) (tick : ℕ) → stream.pending ≡ [] → list_with stream command tick ≤ 2048
+list_of_one stream command tick none = rw none (item_of_one command (tick_after stream tick - tick_after stream tick))
 
 delta_of_one : (stream : Stream) (tick : ℕ) → stream.pending ≡ [] → delta_with stream tick ≡ 0
 delta_of_one stream tick none = rw none (omega arith)
 
-room_for_one : (octets delta : ℕ) → octets ≤ 2048 → delta ≡ 0 → needs_cut 0 octets delta ≡ false
-room_for_one octets delta few none =
+room_for_one : (behind : Bool) (pending octets delta : ℕ) → behind ≡ false → pending ≡ 0 → octets ≤ 2048 → delta ≡ 0 → needs_cut behind pending octets delta ≡ false
+room_for_one behind pending octets delta alone empty few none =
     let short : nat_lt 4095 octets ≡ false = grind (arith, nat_tests, few) in
-    rw (none, short) refl
+    rw (alone, empty, none, short) refl
 
-needless : (session : Session) (command : Command) (tick : ℕ) → IsCommand command → session.stream.pending ≡ [] → cut_refusal (length session.stream.pending) (list_with session.stream command tick) (delta_with session.stream tick) ≡ None
-needless session command tick is none =
-    let few : list_with session.stream command tick ≤ 2048 = omega (arith, list_of_one session.stream command tick none, short_command command is) in
-    let needed = room_for_one (list_with session.stream command tick) (delta_with session.stream tick) few (delta_of_one session.stream tick none) in
-    let empty : length session.stream.pending ≡ 0 = ap length none in
-    rw (empty, needed) refl
+behind_none : (command : Command) (pending : ℕ) → pending ≡ 0 → is_behind_others command pending ≡ false
+behind_none command pending empty = elim (cases_Bool (is_long command)) [ inl long ↦ rw (empty, long) refl | inr short ↦ rw (empty, short) refl ]
+
+uncut : (waiting : List Segment) (behind : Bool) (pending octets delta : ℕ) → waiting ≡ [] → needs_cut behind pending octets delta ≡ false → cut_refusal waiting behind pending octets delta ≡ None
+uncut [] behind pending octets delta rests needed = rw needed refl
+uncut (segment ∷ others) behind pending octets delta rests needed = absurd cc
+
+needless : (session : Session) (command : Command) (tick : ℕ) → session.stream.pending ≡ [] → session.stream.waiting ≡ []
+    → cut_refusal session.stream.waiting (is_behind_others command (length session.stream.pending)) (length session.stream.pending) (list_with session.stream command tick) (delta_with session.stream tick) ≡ None
+needless session command tick none rests =
+    let stream = session.stream in
+    let empty : length stream.pending ≡ 0 = ap length none in
+    let behind = is_behind_others command (length stream.pending) in
+    let needed = room_for_one behind (length stream.pending) (list_with stream command tick) (delta_with stream tick) (behind_none command (length stream.pending) empty) empty (list_of_one stream command tick none) (delta_of_one stream tick none) in
+    uncut stream.waiting behind (length stream.pending) (list_with stream command tick) (delta_with stream tick) rests needed
 
 -- what a play is refused for, where no cut is needed
 other_refusal : (known room : Bool) (events pending octets delta serial : ℕ) (answer : Fit) (command : Command)
@@ -210,5 +229,5 @@ other_refusal true true events pending octets delta serial (fit.PolyFull channel
 other_refusal true true events pending octets delta serial (fit.SysexFull logs sizes) command = λ e. cc
 
 pub needs_no_cut : NeedsNoCut
-needs_no_cut room events session player command tick is none pending octets delta =
-    rw (needless session command tick is none) (other_refusal (is_known session.members player) room events pending octets delta session.stream.plays (fit_after session command) command)
+needs_no_cut room events session player command tick none rests pending octets delta =
+    rw (needless session command tick none rests) (other_refusal (is_known session.members player) room events pending octets delta session.stream.plays (fit_after session command) command)

@@ -1,9 +1,10 @@
 -- What it says of a session that a step is taken.
-use Rattle.std.proofs.Common.{ℕ, ◌+◌, ◌-◌, ◌<◌, ◌≡◌, refl, sym, Bool, true, false, List, Option, Some, None, length, arith, inl, inr}
-use Rattle.std.specs.Prelude.{not, nat_le, nat_lt, ◌==◌, ◌||◌, if◌then◌else◌}
-use Rattle.std.proofs.lemmas.Bool.{cases_Bool}
+use Rattle.std.proofs.Common.{ℕ, ◌+◌, ◌-◌, ◌<◌, ◌≡◌, ◌∙◌, refl, sym, Bool, true, false, List, [], ◌∷◌, Option, Some, None, length, arith, inl, inr}
+use Rattle.std.specs.Prelude.{not, nat_le, nat_lt, ◌==◌, ◌||◌, ◌&&◌, if◌then◌else◌}
+use Rattle.std.proofs.lemmas.Bool.{cases_Bool, lt-ltb}
 use Rattle.std.proofs.lemmas.Bool.Decides.{nat_tests}
 use Rattle.jm_cmds.specs.declared.commands.Command.{Command}
+use Rattle.jm_cmds.specs.Command.{is_long}
 use Rattle.jm_journal.specs.declared.fits.Fit.{Fit}
 use Rattle.jm_journal.specs.declared.fits.Fit.TheVariants as fit
 use Rattle.jm_book.specs.declared.steps.Config.{Config}
@@ -15,8 +16,11 @@ use Rattle.jm_book.specs.declared.marks.Report.TheVariants as report
 use Rattle.jm_book.specs.declared.answers.PlayFault.{PlayFault}
 use Rattle.jm_book.specs.declared.answers.Joined.TheVariants as joined
 use Rattle.jm_book.specs.Participants.{find_joined, is_member, most_joined, free_slot, distance, reaches, report_of, last_packet}
+use Rattle.jm_book.specs.Segments.{Segment}
+use Rattle.jm_book.specs.Stream.{Entry}
+use Rattle.jm_book.specs.Waiting.{CanPlay}
 use Rattle.jm_book.specs.Session.{Session, session_of}
-use Rattle.jm_book.specs.Answers.{is_known, needs_cut, fit_after, fit_refusal, or_else, cut_refusal, refusal_in, played_as, list_with, delta_with, ack_of, acked_as, is_accepted, is_moved, is_joined, is_left, is_noted, members_leave, members_hear, play_in}
+use Rattle.jm_book.specs.Answers.{is_known, is_behind_others, needs_cut, fit_after, fit_refusal, or_else, cut_refusal, refusal_in, played_as, list_with, delta_with, ack_of, acked_as, is_accepted, is_moved, is_joined}
 use Rattle.jm_book.specs.BookAnswers.{has_room}
 use Rattle.jm_book.specs.Legal.{takes, IsTakenIn, IsTaken}
 
@@ -84,23 +88,31 @@ cut_needless : (needed : Bool) (why : PlayFault) → (if needed then Some why el
 cut_needless true why h = absurd cc
 cut_needless false why h = refl
 
--- there is room, the command fits, and no cut is needed
+-- no segment waits, and no cut is needed
+cut_came : (waiting : List Segment) (behind : Bool) (pending octets delta : ℕ) → cut_refusal waiting behind pending octets delta ≡ None → (waiting ≡ []) × (needs_cut behind pending octets delta ≡ false)
+cut_came [] behind pending octets delta h = (refl, cut_needless (needs_cut behind pending octets delta) _ h)
+cut_came (segment ∷ others) behind pending octets delta h = absurd cc
+
+-- there is room, the command fits, no segment waits, and no cut is needed
 pub record Unrefused (room : Bool) (s : Session) (command : Command) (tick : ℕ) : Type 0 where
   pub has_room : room ≡ true
   pub fits : fit_after s command ≡ fit.Yes
-  pub cut : needs_cut (length s.stream.pending) (list_with s.stream command tick) (delta_with s.stream tick) ≡ false
+  pub rests : s.stream.waiting ≡ []
+  pub cut : needs_cut (is_behind_others command (length s.stream.pending)) (length s.stream.pending) (list_with s.stream command tick) (delta_with s.stream tick) ≡ false
 
 pub unrefused : (room : Bool) (events : ℕ) (s : Session) (player : ℕ) (command : Command) (tick : ℕ) → refusal_in room events s player command tick ≡ None → Unrefused room s command tick
 unrefused room events s player command tick none =
     let fits = fit_refusal (fit_after s command) in
-    let needed = needs_cut (length s.stream.pending) (list_with s.stream command tick) (delta_with s.stream tick) in
-    let cuts = cut_refusal (length s.stream.pending) (list_with s.stream command tick) (delta_with s.stream tick) in
+    let behind = is_behind_others command (length s.stream.pending) in
+    let cuts = cut_refusal s.stream.waiting behind (length s.stream.pending) (list_with s.stream command tick) (delta_with s.stream tick) in
     let came = play_came (is_known s.members player) room _ _ (or_else fits cuts) none in
     let both = neither_came fits cuts came.1 in
+    let rest = cut_came s.stream.waiting behind (length s.stream.pending) (list_with s.stream command tick) (delta_with s.stream tick) both.1 in
     record {
       has_room = came.0;
       fits = fit_came (fit_after s command) both.0;
-      cut = cut_needless needed _ both.1;
+      rests = rest.0;
+      cut = rest.1;
     }
 
 pub accepted_unrefused : (serial : ℕ) (command : Command) (refusal : Option PlayFault) → is_accepted (played_as serial command refusal) ≡ true → refusal ≡ None
@@ -196,3 +208,23 @@ hear_taken events s ssrc seq h = elim (cases_Bool (is_member ssrc s.members.join
 pub play_taken : (events : ℕ) (s : Session) (player : ℕ) (command : Command) (tick : ℕ) → IsTakenIn events s (Play player command tick) → Unrefused true s command tick
 play_taken events s player command tick h =
     unrefused true events s player command tick (accepted_unrefused s.stream.plays command (refusal_in true events s player command tick) h)
+
+nothing_before : (long : Bool) (pending : List Entry) → (long && nat_lt 0 (length pending)) ≡ false → long ≡ true → pending ≡ []
+nothing_before long [] h is = refl
+nothing_before true (one ∷ others) h is =
+    let some : nat_lt 0 (length (one ∷ others)) ≡ true = lt-ltb 0 (length (one ∷ others)) (omega arith) in
+    let bad : true ≡ false = sym some ∙ h in
+    absurd cc
+nothing_before false (one ∷ others) h is = absurd cc
+
+none_first : (first a b c : Bool) → (first || a || b || c) ≡ false → first ≡ false
+none_first true a b c h = absurd cc
+none_first false a b c h = refl
+
+-- a play is taken only where it comes in turn
+pub can_play : (events : ℕ) (s : Session) (player : ℕ) (command : Command) (tick : ℕ) → IsTakenIn events s (Play player command tick) → CanPlay s.stream command
+can_play events s player command tick h =
+    let taken = play_taken events s player command tick h in
+    let pending = length s.stream.pending in
+    let behind : is_behind_others command pending ≡ false = none_first (is_behind_others command pending) (nat_le 256 pending) (nat_lt 4095 (list_with s.stream command tick)) (nat_lt 0x0FFFFFFF (delta_with s.stream tick)) taken.cut in
+    record { rests = taken.rests; first = nothing_before (is_long command) s.stream.pending behind }

@@ -1,5 +1,5 @@
 -- Ticks never fall along the sent and pending commands, whatever the steps.
-use Rattle.std.proofs.Common.{ℕ, ◌≤◌, List, [], ◌∷◌, ◌++◌, length, fold, arith, append_assoc, append-nil}
+use Rattle.std.proofs.Common.{ℕ, ◌≤◌, List, [], ◌∷◌, ◌++◌, fold, arith, append_assoc}
 use Rattle.std.specs.List.{AllByRecursion}
 use Rattle.std.proofs.Math.Nat.{le-max_left}
 use Rattle.jm_cmds.specs.declared.history.Sent.{Sent}
@@ -8,9 +8,9 @@ use Rattle.jm_cmds.specs.HistoryLaws.{AllByRecursion-weaker}
 use Rattle.jm_cmds.specs.Sent.{tick_of}
 use Rattle.jm_book.specs.declared.steps.Step.{Step}
 use Rattle.jm_book.specs.declared.steps.Step.TheVariants.{Enter, Play, Cut, Ack, Join, Leave, Hear, Feedback, Say}
-use Rattle.jm_book.specs.Stream.{Stream, stream_of, stream_after, no_stream, played, tick_after, sent_of, pending_of}
+use Rattle.jm_book.specs.Stream.{Stream, Entry, stream_of, stream_after, no_stream, played, tick_after, as_sent, sent_of, pending_of, number_of_pending}
 use Rattle.jm_cmds.specs.HistoryLaws.{InOrder-append, AllByRecursion-append}
-use Rattle.jm_book.specs.StepLaws.{pending_push, sent_cut}
+use Rattle.jm_book.specs.StepLaws.{as_sent_push, all_cut}
 
 -- ticks never fall along these commands, and none is past this one
 pub record TicksRise (tick : ℕ) (commands : List Sent) : Type 0 where
@@ -32,15 +32,43 @@ ticks_push tick commands one l h =
       reached = AllByRecursion-append (λ other. tick_of other ≤ one.tick) commands (one ∷ []) reached (last, tt);
     }
 
+-- ---- the number of the packet is no part of a tick
+
+reached_any : (P : ℕ → Type 0) (number other : ℕ) (entries : List Entry) → AllByRecursion (λ one. P (tick_of one)) (as_sent number entries) → AllByRecursion (λ one. P (tick_of one)) (as_sent other entries)
+reached_any P number other [] h = tt
+reached_any P number other (one ∷ others) h = (h.0, reached_any P number other others h.1)
+
+reached_behind : (P : ℕ → Type 0) (number other : ℕ) (before : List Sent) (entries : List Entry) → AllByRecursion (λ one. P (tick_of one)) (before ++ as_sent number entries) → AllByRecursion (λ one. P (tick_of one)) (before ++ as_sent other entries)
+reached_behind P number other [] entries h = reached_any P number other entries h
+reached_behind P number other (one ∷ before) entries h = (h.0, reached_behind P number other before entries h.1)
+
+in_order_any : (number other : ℕ) (entries : List Entry) → InOrder tick_of (as_sent number entries) → InOrder tick_of (as_sent other entries)
+in_order_any number other [] h = tt
+in_order_any number other (one ∷ others) h = (reached_any (λ tick. one.tick ≤ tick) number other others h.0, in_order_any number other others h.1)
+
+in_order_behind : (number other : ℕ) (before : List Sent) (entries : List Entry) → InOrder tick_of (before ++ as_sent number entries) → InOrder tick_of (before ++ as_sent other entries)
+in_order_behind number other [] entries h = in_order_any number other entries h
+in_order_behind number other (one ∷ before) entries h =
+    (reached_behind (λ tick. tick_of one ≤ tick) number other before entries h.0, in_order_behind number other before entries h.1)
+
+ticks_any : (tick number other : ℕ) (before : List Sent) (entries : List Entry) → TicksRise tick (before ++ as_sent number entries) → TicksRise tick (before ++ as_sent other entries)
+ticks_any tick number other before entries h = record {
+  in_order = in_order_behind number other before entries h.in_order;
+  reached = reached_behind (λ latest. latest ≤ tick) number other before entries h.reached;
+}
+
 -- one more step
 pub ticks_after : (s : Stream) (step : Step) → TicksRise s.tick (sent_of s ++ pending_of s) → TicksRise (stream_after s step).tick (sent_of (stream_after s step) ++ pending_of (stream_after s step))
 ticks_after s Enter h = h
 ticks_after s (Play player command tick) h =
-    let one : Sent = record { packet = length s.packets; tick = tick_after s tick; command = command } in
-    rw (pending_push s player command tick, ← append_assoc (sent_of s) (pending_of s) (one ∷ []))
-    (ticks_push s.tick (sent_of s ++ pending_of s) one (le-max_left s.tick tick) h)
+    let entry : Entry = record { player = player; serial = s.plays; tick = tick_after s tick; command = command } in
+    let number = number_of_pending (played s player command tick) in
+    let one : Sent = record { packet = number; tick = tick_after s tick; command = command } in
+    let before = ticks_any s.tick (number_of_pending s) number (sent_of s) s.pending h in
+    rw (as_sent_push number s.pending entry, ← append_assoc (sent_of s) (as_sent number s.pending) (one ∷ []))
+    (ticks_push s.tick (sent_of s ++ as_sent number s.pending) one (le-max_left s.tick tick) before)
 ticks_after s (Cut tick) h =
-    rw (sent_cut s tick, append-nil) (ticks_later s.tick (tick_after s tick) (sent_of s ++ pending_of s) (le-max_left s.tick tick) h)
+    rw (all_cut s tick) (ticks_later s.tick (tick_after s tick) (sent_of s ++ pending_of s) (le-max_left s.tick tick) h)
 ticks_after s (Ack ssrc seq) h = h
 ticks_after s (Join ssrc) h = h
 ticks_after s (Leave ssrc) h = h

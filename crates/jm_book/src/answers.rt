@@ -19,7 +19,8 @@ pub enum Entered {
 #[derive(Debug, Drop)]
 pub enum Played {
     /// The command is pending. `serial` is how many plays were accepted before; `kept` is false
-    /// exactly for a SysEx of over 254 data octets, which is sent and not repaired.
+    /// exactly for a SysEx of over 254 data octets, which is sent and not repaired. One of over 2,046 is long: it is sent in
+    /// segments, one a packet.
     Accepted { serial: u64, kept: bool },
     /// The command was not taken, and is handed back.
     Refused { why: PlayFault, command: Command },
@@ -52,8 +53,10 @@ pub enum PlayFault {
         logs: usize,
         octets: usize,
     },
-    /// 256 commands are pending; or with this command the MIDI list would have `octets` octets,
-    /// more than 4,095; or `delta`, its distance from the command before it, is over 0x0FFFFFFF.
+    /// A segment of a long command waits: `pending` says how many do, `octets` is the length of the next one in its packet, and
+    /// `delta` is 0. Or the command is long and others are pending; or 256 commands are pending; or with this command, or a long
+    /// one's first segment, the MIDI list would have `octets` octets, more than 4,095; or `delta`, its distance from the
+    /// command before it, is over 0x0FFFFFFF.
     NeedsCut {
         pending: usize,
         octets: usize,

@@ -4,7 +4,7 @@ ghost use Rattle.std.specs.Prelude.{◌≡◌, ◌+◌, ◌≤◌, ◌<◌, fals
 ghost use Rattle.jm_wire.specs.Octets.{Appends};
 ghost use Rattle.jm_book.specs.Book.{Told, IsReady, Takes};
 ghost use Rattle.jm_book.specs.Commands.{HaveCommands};
-ghost use Rattle.jm_book.specs.Stream.{stream_of};
+ghost use Rattle.jm_book.specs.Stream.{stream_of, unsent};
 ghost use Rattle.jm_book.specs.Session.{session_of, checkpoint_of};
 ghost use Rattle.jm_book.specs.Packet.{packet_of, HasShortNext};
 ghost use Rattle.jm_book.specs.Answers.{is_entered, is_accepted, is_packet, is_moved, is_joined, is_left, is_noted, is_given, is_said};
@@ -184,7 +184,8 @@ impl Book {
 
 impl Book {
     /// A player's command, at this tick in units of 100 microseconds, becomes pending. It gets the
-    /// latest tick that was taken, where that is later. A refused command is handed back.
+    /// latest tick that was taken, where that is later. Where it has over 2,046 data octets its segments wait. A refused
+    /// command is handed back.
     pub fn play(&mut self, player: u8, command: Command, tick: u64) -> Played
         requires { IsReady self.old }
         ensures answer { result ≡ play_answer self.old.config self.old.steps player command tick }
@@ -197,7 +198,7 @@ impl Book {
         match answer {
             CorePlayed::Refused { why } => Played::Refused { why, command },
             CorePlayed::Accepted { serial, kept } => {
-                let packet = self.core.packets();
+                let packet = self.core.number_of_pending();
                 let latest = self.core.tick();
                 let sent = Sent {
                     packet,
@@ -210,8 +211,8 @@ impl Book {
         }
     }
 
-    /// All pending commands become the next packet, whose octets are put into `out`, at most
-    /// 21,099 of them. A packet without commands has this tick, in units of 100 microseconds, or the
+    /// All pending commands become the next packet, or the first segment that waits does (RFC 6295, section 3.2). Its octets
+    /// are put into `out`, at most 21,099 of them. A packet without commands has this tick, in units of 100 microseconds, or the
     /// latest one that was taken, where that is later. A refusal leaves `out` as it was.
     pub fn cut(&mut self, tick: u64, out: &mut Octets) -> Cutted
         requires ready { IsReady self.old }
@@ -258,11 +259,11 @@ impl Book {
         self.core.checkpoint()
     }
 
-    /// How many commands are pending.
+    /// How many commands are pending. A long one, of over 2,046 data octets, counts as its segments that wait, at most 33.
     pub fn pending(&self) -> usize
-        ensures { result ≡ length (stream_of self.now.steps).pending }
+        ensures { result ≡ unsent (stream_of self.now.steps) }
     {
-        self.core.pending()
+        self.core.unsent_count()
     }
 
     /// Puts into `out` the data addresses of the joined peers, in their order: where packets go.

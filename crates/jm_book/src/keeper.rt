@@ -5,12 +5,13 @@ ghost use Rattle.jm_section.specs.declared.next.Place.TheVariants.{First};
 ghost use Rattle.jm_book.specs.Members.{no_members};
 ghost use Rattle.jm_book.specs.Participants.{checkpoint_at};
 ghost use Rattle.jm_book.specs.Answers.{members_enter, members_ack, members_join, members_leave, members_hear, members_say, answer_feedback, is_entered, is_moved, is_joined, is_left, is_noted, is_given, is_said, after_if, feedback_of, addresses_of};
-ghost use Rattle.jm_book.specs.Core.{next_tick, next_delta, with_members};
+ghost use Rattle.jm_book.specs.Core.{next_tick, next_delta, count_held, held_number, with_members};
 
 use crate::answers::{Acked, Entered, Given, Gone, Heard, Joined, Said};
 use crate::lists::{AddrList, FeedbackList};
 use crate::roster::{Room, Roster};
 use crate::steps::{Config, Step};
+use crate::waiting::Unsent;
 use apple_msg::Message;
 use apple_session::PortKind;
 use jm_edge::Addr;
@@ -38,10 +39,12 @@ pub(crate) struct Core {
     pub(crate) tick: u64,
     /// The tick of the first pending command.
     pub(crate) first: u64,
-    /// The MIDI list of what is pending.
+    /// The MIDI list of what is pending, without a long command.
     pub(crate) list: Octets,
     /// The place behind it.
     pub(crate) place: Place,
+    /// The segments of a long command that weren't sent.
+    pub(crate) unsent: Unsent,
 }
 
 impl Model for Core {
@@ -50,7 +53,7 @@ impl Model for Core {
 
     ghost Value = { CoreTold };
 
-    ghost view = { λ c. record { config = c.config; members = c.roster; packets = c.packets; plays = c.plays; pending = c.pending; tick = c.tick; first = c.first; list = c.list.octets; place = c.place } };
+    ghost view = { λ c. record { config = c.config; members = c.roster; packets = c.packets; plays = c.plays; pending = c.pending; tick = c.tick; first = c.first; list = c.list.octets; place = c.place; waiting = c.unsent } };
 
     ghost invariant = { λ c. IsInLimits c.pending c.list };
 }
@@ -58,9 +61,10 @@ impl Model for Core {
 impl Core {
     /// A session of no steps. It fails where memory runs out.
     pub(crate) fn new(config: Config, alloc: Global) -> Result<Core, AllocError>
-        ensures { IfOk result (λ c. c ≡ record { config = config; members = no_members config; packets = 0; plays = 0; pending = 0; tick = 0; first = 0; list = []; place = First }) }
+        ensures { IfOk result (λ c. c ≡ record { config = config; members = no_members config; packets = 0; plays = 0; pending = 0; tick = 0; first = 0; list = []; place = First; waiting = [] }) }
     {
         let list = Octets::with_room(LONGEST_LIST, alloc)?;
+        let unsent = Unsent::new(alloc)?;
         let roster = Roster::new(&config);
         Ok(Core {
             config,
@@ -72,6 +76,7 @@ impl Core {
             first: 0,
             list,
             place: Place::First,
+            unsent,
         })
     }
 
@@ -99,6 +104,25 @@ impl Core {
         ensures bound { result ≤ 256 }
     {
         self.pending
+    }
+
+    /// How many commands are pending, a long one counted by its segments that wait.
+    pub(crate) fn unsent_count(&self) -> usize
+        ensures { result ≡ count_held self.now }
+    {
+        let waiting = self.unsent.len();
+        if waiting == 0 {
+            return self.pending;
+        }
+        waiting + self.pending.saturating_sub(1)
+    }
+
+    /// The number of the packet with which what is pending is sent: the next one's, or that of the last segment that waits.
+    pub(crate) fn number_of_pending(&self) -> u64
+        requires { self.now.packets < 2 ^ 62 }
+        ensures { result ≡ held_number self.now }
+    {
+        self.packets + self.unsent.len().saturating_sub(1) as u64
     }
 
     /// The latest tick of a play or a cut.

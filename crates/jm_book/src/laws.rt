@@ -12,8 +12,9 @@ pub use members::{
     parts_stay, peers_are_joined, peers_come, reports_move, reports_one, says_one, stays_near,
 };
 pub use stream::{
-    counts_cuts, keeps_commands, keeps_packets, keeps_stream, leaves_nothing, needs_no_cut,
-    packets_fit, pends_since_cut, plays_append, sends_pending,
+    counts_cuts, divides_long, keeps_commands, keeps_packets, keeps_stream, leaves_nothing,
+    needs_no_cut, packets_fit, pends_since_cut, plays_append, sends_in_turn, sends_pending,
+    waits_alone,
 };
 
 /// Packet numbers never fall along the sent commands, nor along those and the pending ones.
@@ -26,9 +27,8 @@ pub fn ticks_in_order()
     ensures { TicksInOrder }
 {}
 
-/// Each accepted command stands in one packet or is pending: the entries of all packets in order, and
-/// then those pending, are the plays in order, each with its player and command, and with the greatest
-/// tick among it and all plays and cuts before it.
+/// The entries of all packets in order, and then those pending, are the plays in order, each with its player and command, and with the
+/// greatest tick among it and all plays and cuts before it. So each accepted command is an entry of one packet or is pending.
 pub fn keeps_plays()
     ensures { KeepsPlays }
 {}

@@ -14,6 +14,7 @@ mod roster;
 mod say;
 mod steps;
 mod tape;
+mod waiting;
 
 pub use answers::{
     Acked, Acted, Cutted, Entered, Given, Gone, Heard, Joined, PlayFault, Played, Said,

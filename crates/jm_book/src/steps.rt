@@ -27,7 +27,7 @@ pub enum Step {
         command: Command,
         tick: u64,
     },
-    /// All pending commands became the next packet, at the tick that the sender gave.
+    /// All pending commands became the next packet, or one segment did, at the tick that the sender gave.
     Cut {
         tick: u64,
     },

@@ -143,7 +143,7 @@ impl Tape {
         ensures commands { self.new.commands ≡ self.old.commands ++ sent ∷ [] }
     {
         // that a command has a size says that its numbers are within their bounds
-        prove!(sent.command.size() <= 2048);
+        prove!(sent.command.size() <= 65538);
         self.marks.push_reserved(Mark::Play { player, tick });
         self.commands.push_reserved(sent);
     }

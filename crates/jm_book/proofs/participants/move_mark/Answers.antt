@@ -1,4 +1,4 @@
-use Rattle.std.proofs.Common.{◌≡◌, ◌∙◌, sym, ap, List, None, get_or, eq-eqb, arith}
+use Rattle.std.proofs.Common.{◌∙◌, sym, ap, List, None, get_or, eq-eqb, arith}
 use Rattle.jm_book.specs.declared.participants.Participant.{Participant}
 use Rattle.jm_book.specs.Participants.{moved}
 use Rattle.jm_book.proofs.Changing.{changed-drop}

@@ -1,11 +1,8 @@
-use Rattle.std.proofs.Common.{◌≡◌, ◌∙◌, ◌≤◌, ◌-◌, true, sym, ap, refl, List, length, take, subst}
-use Rattle.jm_cmds.specs.declared.history.Sent.{Sent}
-use Rattle.jm_wire.specs.Octets.{Appends}
+use Rattle.std.proofs.Common.{sym, ap}
 use Rattle.jm_book.specs.declared.steps.Step.TheVariants.{Cut}
-use Rattle.jm_book.specs.Stream.{stream_of, sent_of}
 use Rattle.jm_book.specs.Answers.{is_packet}
 use Rattle.jm_book.specs.Legal.{IsTaken}
-use Rattle.jm_book.proofs.OneMore.{LentSent, lent_sent, pending_within, sent_first, kept_cut, packet_is, short_is}
+use Rattle.jm_book.proofs.OneMore.{lent_sent, pending_within, sent_first, kept_cut, packet_is, short_is}
 use Rattle.jm_book.proofs.book.Book.cut.Goals as goal
 
 pub overflow_sub-first_pending : goal.overflow_sub-first_pending

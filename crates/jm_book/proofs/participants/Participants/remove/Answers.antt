@@ -1,6 +1,4 @@
-use Rattle.std.proofs.Common.{◌≡◌, ◌∙◌, sym, Some, None}
-use Rattle.std.specs.List.{position}
-use Rattle.jm_book.specs.Participants.{is_of}
+use Rattle.std.proofs.Common.{◌∙◌, sym}
 use Rattle.jm_book.proofs.Changing.{others-at, others-nowhere}
 use Rattle.jm_book.proofs.participants.Participants.remove.Goals as goal
 

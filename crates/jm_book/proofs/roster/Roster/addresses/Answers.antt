@@ -1,9 +1,8 @@
 use Rattle.std.proofs.Common.{◌≡◌, ◌∙◌, sym, ap, Option, Some, None, append-nil, ◌++◌, List, arith}
-use Rattle.std.specs.List.{slice_get, filter_map}
-use Rattle.std.proofs.Common.{drop}
+use Rattle.std.specs.List.{slice_get}
 use Rattle.jm_edge.specs.declared.Addr.{Addr}
 use Rattle.apple_session.specs.declared.peer.Peer.{Peer}
-use Rattle.jm_book.proofs.Picking.{filter_past, filter_end, picked, cons_few}
+use Rattle.jm_book.proofs.Picking.{filter_past, picked, cons_few}
 use Rattle.jm_book.proofs.roster.Roster.addresses.Goals as goal
 
 pub returns-in_default : goal.returns-in_default

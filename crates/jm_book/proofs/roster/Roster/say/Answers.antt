@@ -1,6 +1,6 @@
-use Rattle.std.proofs.Common.{◌≡◌, ◌∙◌, sym, ap}
+use Rattle.std.proofs.Common.{◌∙◌, sym, ap}
 use Rattle.apple_session.specs.declared.answer.Answer.{Answer}
-use Rattle.jm_book.specs.Members.{Members, outcome_of, said_outcome}
+use Rattle.jm_book.specs.Members.{Members}
 use Rattle.jm_book.specs.LegalJoined.{said_joins}
 use Rattle.jm_book.specs.SoundLaws.{sound_say, said_reports}
 use Rattle.jm_book.proofs.roster.Roster.say.Goals as goal
