@@ -19,12 +19,13 @@ use Rattle.jm_receiver.specs.Receiver.{Received}
 use Rattle.jm_receiver.specs.Repair.{repaired}
 use Rattle.jm_receiver.specs.Accept.{placed, used_after, repaired_using, heard_in, took_at, accepted}
 use Rattle.jm_receiver.specs.FreshLogs.{fresh_of}
+use Rattle.jm_receiver.specs.InStep.{IsLongBegun}
 use Rattle.jm_receiver.specs.Late.{HasValues, IsLate, IsTakenLate, LateJoinersHaveValues}
 use Rattle.jm_receiver.specs.Order.{all_of}
 use Rattle.jm_receiver.specs.SectionLaws.{none_repaired, ahead_placed}
 use Rattle.jm_receiver.specs.StaysInStep.{commands_of, IsPacket}
 use Rattle.jm_receiver.specs.Whole.{IsReceived, accepted_whole, used_whole}
-use Rattle.jm_receiver.proofs.InStepLaws.{begins, heard_state}
+use Rattle.jm_receiver.proofs.InStepLaws.{begins, heard_state, heard_long}
 use Rattle.jm_receiver.proofs.LateValues.{values_also, values_first, values_repaired, values_fresh}
 use Rattle.jm_receiver.proofs.StepLaws.{with_own}
 
@@ -46,21 +47,21 @@ used_values from checkpoint next gap tick sent h o early is has =
       ]
     ]
 
-module _ (from : ℕ) (r : Received) (octets : List ℕ) (checkpoint packet : ℕ) (sent : List Sent) (stands : IsPacket r.ssrc octets checkpoint packet sent) (o : InOrder packet_of sent) (is : IsReceived r) where
+module _ (from : ℕ) (r : Received) (octets : List ℕ) (checkpoint packet : ℕ) (sent : List Sent) (stands : IsPacket r.ssrc octets checkpoint packet sent) (o : InOrder packet_of sent) (is : IsReceived r) (long : IsLongBegun r.unfinished) where
   abbrev start : Hearing
-  start = begins r octets stands.read packet (below packet_of packet sent) (commands_of packet sent) stands.opens stands.says.commands is
+  start = begins r octets stands.read packet (below packet_of packet sent) (commands_of packet sent) stands.opens stands.says.commands is long
 
   -- where what is used of the journal leaves the values of all packets before
   taken_late : (place : Placed) (wraps : ℕ) → placed r.last stands.read.number ≡ Ok place → place.number + 65536 * wraps ≡ packet →
       HasValues from (repaired_using place.uses stands.read.logs start).state (below packet_of packet sent) → IsTakenLate r octets from packet sent
   unfolding accepted
   taken_late place wraps found number has =
-      let both = took_at place (heard_in r stands.read place.uses) r in
+      let both = took_at place (heard_in r stands.read place) r in
       let answer : accepted r octets ≡ Ok (both.0, both.1) = rw (stands.opens, found) refl in
       let used = repaired_using place.uses stands.read.logs start in
       let own = commands_of packet sent in
-      let same : (heard_in r stands.read place.uses).state ≡ state_behind used.state own =
-      heard_state r octets stands.read packet (below packet_of packet sent) own stands.opens stands.says.commands is place.uses in
+      let same : (heard_in r stands.read place).state ≡ state_behind used.state own =
+      heard_state r octets stands.read packet (below packet_of packet sent) own stands.opens stands.says.commands is long place in
       let whole = used_whole place.uses stands.read.logs start is.whole in
       let values : HasValues from (state_behind used.state own) (below packet_of (packet + 1) sent) =
       subst (λ (list : List Sent). HasValues from (state_behind used.state own) list) (with_own packet sent o) (values_also from used.state (below packet_of packet sent) own whole.state has) in
@@ -71,6 +72,7 @@ module _ (from : ℕ) (r : Received) (octets : List ℕ) (checkpoint packet : �
         ssrc = refl;
         late = record {
           received = accepted_whole r octets both.0 both.1 is answer;
+          unfinished = heard_long r octets stands.read packet (below packet_of packet sent) own stands.opens stands.says.commands is long place;
           number = place.number;
           wraps = wraps;
           takes = refl;
@@ -86,7 +88,7 @@ none_before sent =
 late_begins : (r : Received) (octets : List ℕ) (checkpoint packet : ℕ) (sent : List Sent) → IsPacket r.ssrc octets checkpoint packet sent → InOrder packet_of sent → r.last ≡ None → IsReceived r → IsTakenLate r octets checkpoint packet sent
 late_begins r octets checkpoint packet sent stands o none is =
     let empty : r.state ≡ no_state = is.begins none in
-    taken_late checkpoint r octets checkpoint packet sent stands o is (record { number = stands.read.number; gap = 0; uses = All }) (packet / 65536) (rw none refl)
+    taken_late checkpoint r octets checkpoint packet sent stands o is (rw (is.empty none) tt) (record { number = stands.read.number; gap = 0; uses = All }) (packet / 65536) (rw none refl)
     (rw (stands.says.number) (omega arith))
     (elim (cases_Bool (eqb packet 0)) [
       | inl t ↦
@@ -118,11 +120,11 @@ late_goes_on from last r octets checkpoint packet sent late stands o early later
     let low : stands.read.number ≡ number % 65536 = stands.says.number ∙ omega (arith, counted) in
     let some : 1 ≤ packet = omega (arith, later) in
     let logs : stands.read.logs ≡ journal_logs checkpoint (last + 1 + gap) stands.tick sent = stands.says.later some ∙ ap (λ n. journal_logs checkpoint n stands.tick sent) (sym same) in
-    taken_late from r octets checkpoint packet sent stands o late.received (record { number = number; gap = gap; uses = used_after gap }) late.wraps
+    taken_late from r octets checkpoint packet sent stands o late.received late.unfinished (record { number = number; gap = gap; uses = used_after gap }) late.wraps
     (rw (late.takes, low) (ahead_placed late.number gap (omega (arith, later, near)) (omega (arith, counted, small)))) counted
     (rw logs
-    (subst (λ n. HasValues from (repaired_using (used_after gap) (journal_logs checkpoint (last + 1 + gap) stands.tick sent) (start from r octets checkpoint packet sent stands o late.received)).state (below packet_of n sent)) same
-    (used_values from checkpoint (last + 1) gap stands.tick sent (start from r octets checkpoint packet sent stands o late.received) o early late.received.whole.state late.values)))
+    (subst (λ n. HasValues from (repaired_using (used_after gap) (journal_logs checkpoint (last + 1 + gap) stands.tick sent) (start from r octets checkpoint packet sent stands o late.received late.unfinished)).state (below packet_of n sent)) same
+    (used_values from checkpoint (last + 1) gap stands.tick sent (start from r octets checkpoint packet sent stands o late.received late.unfinished) o early late.received.whole.state late.values)))
 
 pub late_joiners_have_values : LateJoinersHaveValues
 late_joiners_have_values = record { begins = late_begins; goes_on = late_goes_on }

@@ -12,3 +12,4 @@ pub mod SelectionTold
 pub mod SelectionCovered
 pub mod SelectionsTold
 pub mod PacketsTold
+pub mod SegmentsTold

@@ -1,6 +1,7 @@
 -- What a receiver hears of a packet tells a listener selections and parameters.
-use Rattle.std.proofs.Common.{◌≡◌, ℕ, ◌+◌, ◌-◌, ◌%◌, ◌^◌, ◌<◌, ◌≤◌, eqb, List, [], ◌∷◌, ◌++◌, Option, Some, None, fold, map, refl, sym, ap, subst, ◌∙◌, inl, inr, arith}
+use Rattle.std.proofs.Common.{◌≡◌, ℕ, ◌+◌, ◌-◌, ◌%◌, ◌^◌, ◌<◌, ◌≤◌, eqb, List, [], ◌∷◌, ◌++◌, Option, Some, None, fold, refl, sym, ap, subst, ◌∙◌, inl, inr, arith}
 use Rattle.std.specs.Prelude.{Result, Ok}
+use Rattle.std.specs.List.{cons_option}
 use Rattle.std.proofs.lemmas.Bool.{cases_Bool, eqb-true}
 use Rattle.std.proofs.lemmas.Bool.Decides.{nat_tests}
 use Rattle.std.proofs.lemmas.List.Sums.{fold-append}
@@ -11,8 +12,6 @@ use Rattle.jm_cmds.specs.History.{below, InOrder}
 use Rattle.jm_cmds.specs.Selection.{param_command}
 use Rattle.jm_cmds.specs.Sent.{packet_of}
 use Rattle.jm_section.specs.declared.item.Item.{Item}
-use Rattle.jm_section.specs.declared.item.What.{What}
-use Rattle.jm_section.specs.declared.item.What.TheVariants.{Whole, Part, Passed}
 use Rattle.ch_sysex.specs.ChapterX.{sysex_logs}
 use Rattle.jm_state.specs.declared.state.State.{State}
 use Rattle.jm_state.specs.Apply.{applied}
@@ -30,36 +29,36 @@ use Rattle.jm_receiver.specs.declared.opening.AcceptFault.{AcceptFault}
 use Rattle.jm_receiver.specs.declared.place.Placed.{Placed}
 use Rattle.jm_receiver.specs.declared.place.Uses.TheVariants.{All}
 use Rattle.jm_receiver.specs.declared.receiver.Took.{Took}
-use Rattle.jm_receiver.specs.Accept.{Contents, opened, placed, used_after, repaired_using, heard_in, took_at, accepted}
+use Rattle.jm_receiver.specs.Accept.{Contents, opened, placed, used_after, repaired_using, kept_over, heard_in, took_at, accepted}
 use Rattle.jm_receiver.specs.Agreement.{few_of, Agrees, states_repaired}
 use Rattle.jm_receiver.specs.FreshLogs.{fresh_of}
 use Rattle.jm_receiver.specs.HandedOn.{repair_handed_on}
-use Rattle.jm_receiver.specs.Heard.{what_heard, sent_also, sent_all}
+use Rattle.jm_receiver.specs.Heard.{left_unfinished, command_said, commands_said, heard_if, sent_also, sent_all}
 use Rattle.jm_receiver.specs.HeardLaw.{listening}
-use Rattle.jm_receiver.specs.InStep.{first_lacking, CanTell, whole_of, commands_in}
+use Rattle.jm_receiver.specs.InStep.{first_lacking, CanTell, IsLongBegun, HoldsCommands}
 use Rattle.jm_receiver.specs.KeptAgreement.{commands_agree, param_along}
 use Rattle.jm_receiver.specs.Listened.{listened}
 use Rattle.jm_receiver.specs.Needless.{none_handed_on}
 use Rattle.jm_receiver.specs.PacketsTell.{TellsParams, PacketsTellParams}
 use Rattle.jm_receiver.specs.Receiver.{Received}
 use Rattle.jm_receiver.specs.Repair.{repaired}
-use Rattle.jm_receiver.specs.SectionLaws.{items_state, none_repaired, ahead_placed}
+use Rattle.jm_receiver.specs.SectionLaws.{items_state, kept_long, own_state, none_repaired, ahead_placed}
 use Rattle.jm_receiver.specs.Whole.{IsWhole, applied_whole, used_whole, ok_value}
-use Rattle.jm_receiver.proofs.InStepLaws.{commands_state, used_agree}
+use Rattle.jm_receiver.proofs.InStepLaws.{used_agree}
 use Rattle.jm_receiver.proofs.ParamsTold.{parameters_heard}
 use Rattle.jm_receiver.proofs.SelectionsTold.{selections_heard}
 
 -- ## The commands of a section
 
-what_listened : (s : State) (h : Hearing) (what : What) (others : List Command) → fold applied (listened s (what_heard h what).heard) others ≡ fold applied (listened s h.heard) (whole_of what ++ others)
-what_listened s h (Whole command) others = ap (λ (t : State). fold applied t others) (fold-append (λ (t : State) (one : Heard). applied t one.command) s h.heard _)
-what_listened s h (Part kind octets) others = refl
-what_listened s h (Passed octet) others = refl
+said_listened : (s : State) (h : Hearing) (said : Option Command) (others : List Command) → fold applied (listened s (heard_if h said).heard) others ≡ fold applied (listened s h.heard) (cons_option said others)
+said_listened s h None others = refl
+said_listened s h (Some command) others = ap (λ (t : State). fold applied t others) (fold-append (λ (t : State) (one : Heard). applied t one.command) s h.heard _)
 
-items_listened : (s : State) (h : Hearing) (items : List Item) → listened s (fold sent_also h items).heard ≡ fold applied (listened s h.heard) (commands_in items)
+items_listened : (s : State) (h : Hearing) (items : List Item) → listened s (fold sent_also h items).heard ≡ fold applied (listened s h.heard) (commands_said h.unfinished items)
 items_listened s h [] = refl
 items_listened s h (item ∷ items) =
-    items_listened s (sent_also h item) items ∙ what_listened s (record h { tick = (h.tick + item.delta) % 2 ^ 32 }) item.what (commands_in items)
+    items_listened s (sent_also h item) items
+    ∙ said_listened s (record h { tick = (h.tick + item.delta) % 2 ^ 32 }) (command_said h.unfinished item.what) (commands_said (left_unfinished h.unfinished item.what) items)
 
 selection_along : (channel : ℕ) → channel < 16 → (t u : State) (own : List Sent) → IsState t → IsState u → selection_of t channel ≡ selection_of u channel → selection_of (state_behind t own) channel ≡ selection_of (state_behind u own) channel
 selection_along channel l t u [] is w e = e
@@ -112,25 +111,27 @@ used_tell checkpoint next gap tick time sent s commands o messages early is agre
 
 -- ## The packet
 
-placed_tells : (r : Received) (octets : List ℕ) (c : Contents) (place : Placed) (before own : List Sent) (after : Received) (took : Took) → opened r.ssrc octets ≡ Ok c → commands_in c.items ≡ map (λ one. one.command) own → placed r.last c.number ≡ Ok place → IsWhole r.state → accepted r octets ≡ Ok (after, took) →
+placed_tells : (r : Received) (octets : List ℕ) (c : Contents) (place : Placed) (before own : List Sent) (after : Received) (took : Took) → opened r.ssrc octets ≡ Ok c → HoldsCommands own c.items → placed r.last c.number ≡ Ok place → IsWhole r.state → IsLongBegun r.unfinished → accepted r octets ≡ Ok (after, took) →
     Agrees (repaired_using place.uses c.logs (listening r.state c.tick)).state before →
     TellsParams (repaired_using place.uses c.logs (listening r.state c.tick)).state (listened r.state (repaired_using place.uses c.logs (listening r.state c.tick)).heard) before → TellsParams after.state (listened r.state took.heard) (before ++ own)
 unfolding accepted sent_all
-placed_tells r octets c place before own after took read says found is e agrees told =
-    let g = repaired_using place.uses c.logs (listening r.state c.tick) in
+placed_tells r octets c place before own after took read holds found is long e agrees told =
+    let unfinished = kept_over place.gap r.unfinished in
+    let g : Hearing = record (repaired_using place.uses c.logs (listening r.state c.tick)) { unfinished = unfinished } in
     let h = fold sent_also g c.items in
-    let mine : Received × Took = took_at place (heard_in r c place.uses) r in
+    let mine : Received × Took = took_at place (heard_in r c place) r in
+    let kept = kept_long place.gap r.unfinished long in
     let taken : ◌≡◌ {A = Result (Received × Took) AcceptFault} (Ok mine) (Ok (after, took)) = rw (read, found) at e in
     let same : mine ≡ (after, took) = ok_value mine (after, took) taken in
-    let state : h.state ≡ state_behind g.state own = items_state g c.items ∙ ap (fold applied g.state) says ∙ commands_state g.state own in
-    let listener : listened r.state h.heard ≡ state_behind (listened r.state g.heard) own = items_listened r.state g c.items ∙ ap (fold applied (listened r.state g.heard)) says ∙ commands_state (listened r.state g.heard) own in
+    let state : h.state ≡ state_behind g.state own = items_state g c.items ∙ own_state g.state unfinished own c.items kept holds in
+    let listener : listened r.state h.heard ≡ state_behind (listened r.state g.heard) own = items_listened r.state g c.items ∙ own_state (listened r.state g.heard) unfinished own c.items kept holds in
     let along = tells_along (listened r.state g.heard) g.state before own (heard_whole r.state g.heard is) (used_whole place.uses c.logs (listening r.state c.tick) is) agrees told in
     let all : TellsParams h.state (listened r.state h.heard) (before ++ own) =
     subst (λ (t : State). TellsParams t (listened r.state h.heard) (before ++ own)) (sym state) (subst (λ (t : State). TellsParams (state_behind g.state own) t (before ++ own)) (sym listener) along) in
     subst (λ (p : Received × Took). TellsParams p.0.state (listened r.state p.1.heard) (before ++ own)) same all
 
 pub packets_tell_params : PacketsTellParams
-packets_tell_params r octets c checkpoint packet tick sent own after took read stands commands o messages early tells is agrees e = by_last r.last refl early tells agrees
+packets_tell_params r octets c checkpoint packet tick sent own after took read stands commands o messages early tells is long agrees e = by_last r.last refl early tells agrees
   where
     by_last : (last : Option ℕ) → r.last ≡ last → checkpoint ≤ first_lacking last → CanTell last packet → Agrees r.state (below packet_of (first_lacking last) sent) → TellsParams after.state (listened r.state took.heard) (below packet_of packet sent ++ own)
     by_last None none early tells agrees =
@@ -139,12 +140,12 @@ packets_tell_params r octets c checkpoint packet tick sent own after took read s
         elim (cases_Bool (eqb packet 0)) [
           | inl t ↦
               let here : packet ≡ 0 = eqb-true packet 0 t in
-              placed_tells r octets c place (below packet_of packet sent) own after took read stands.commands (rw none refl) is.whole e
+              placed_tells r octets c place (below packet_of packet sent) own after took read stands.commands (rw none refl) is.whole long e
               (rw (stands.first here, none_repaired r.state) (subst (λ n. Agrees r.state (below packet_of n sent)) (sym here) agrees))
               (rw (stands.first here, none_repaired r.state, none_handed_on r.state (listening r.state c.tick)) (record { selection = λ channel l. refl; param = λ channel nrpn high low l some. refl }))
           | inr f ↦
               let some : 1 ≤ packet = grind (arith, nat_tests, f) in
-              placed_tells r octets c place (below packet_of packet sent) own after took read stands.commands (rw none refl) is.whole e
+              placed_tells r octets c place (below packet_of packet sent) own after took read stands.commands (rw none refl) is.whole long e
               (rw (stands.later some) (states_repaired checkpoint 0 packet tick sent r.state commands o messages early (omega arith) is.whole agrees))
               (rw (stands.later some) (record {
                 selection = selections_heard.by_all checkpoint 0 packet tick c.tick sent r.state commands o messages early (omega arith) is.whole agrees;
@@ -159,7 +160,7 @@ packets_tell_params r octets c checkpoint packet tick sent own after took read s
         ahead_placed last gap (let l = tells.later in let n = tells.near in omega (arith, l, n)) (let m = tells.small in omega (arith, same, m)) in
         let later : 1 ≤ packet = (let l = tells.later in omega (arith, l)) in
         placed_tells r octets c (record { number = last + 1 + gap; gap = gap; uses = used_after gap }) (below packet_of packet sent) own after took read stands.commands
-        (rw (some, stands.number) (subst (λ n. placed (Some last) (n % 65536) ≡ Ok (record { number = last + 1 + gap; gap = gap; uses = used_after gap })) same found)) is.whole e
+        (rw (some, stands.number) (subst (λ n. placed (Some last) (n % 65536) ≡ Ok (record { number = last + 1 + gap; gap = gap; uses = used_after gap })) same found)) is.whole long e
         (rw (stands.later later)
         (subst (λ n. Agrees (repaired_using (used_after gap) (journal_logs checkpoint n tick sent) (listening r.state c.tick)).state (below packet_of n sent)) same
         (used_agree checkpoint (last + 1) gap tick sent (listening r.state c.tick) commands o few early is.whole agrees)))

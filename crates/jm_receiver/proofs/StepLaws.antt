@@ -13,7 +13,7 @@ use Rattle.jm_receiver.specs.declared.receiver.Took.{Took}
 use Rattle.jm_receiver.specs.Receiver.{Received}
 use Rattle.jm_receiver.specs.Accept.{accepted, Accepts}
 use Rattle.jm_receiver.specs.Agreement.{Agrees}
-use Rattle.jm_receiver.specs.InStep.{first_lacking, IsTaken}
+use Rattle.jm_receiver.specs.InStep.{first_lacking, IsLongBegun, IsTaken}
 use Rattle.jm_receiver.specs.Repairs.{below_next}
 use Rattle.jm_receiver.specs.StaysInStep.{commands_of, IsInStep, IsStep, TakesInStep, StaysInStep}
 use Rattle.jm_receiver.specs.Whole.{accepted_whole, ok_value}
@@ -40,6 +40,7 @@ step_taken r octets packet sent took after o in_step answer t =
       missed = λ last some. ap (λ (x : Took). last + 1 + x.gap) (sym same_took) ∙ t.missed last some;
       in_step = record {
         received = accepted_whole r octets after took in_step.received answer;
+        unfinished = subst (λ (x : Received). IsLongBegun x.unfinished) same_after t.unfinished;
         agrees =
             let up_to : below packet_of packet sent ++ commands_of packet sent ≡ below packet_of (first_lacking after.last) sent =
             with_own packet sent o ∙ ap (λ (last : Option ℕ). below packet_of (first_lacking last) sent) (sym number) in
@@ -55,7 +56,7 @@ refused r octets packet before own fault h t =
 pub stays_in_step : (r : Received) (octets : List ℕ) (result : Result Took (ReadError AcceptFault)) (after : Received) → Accepts result after (accepted r octets) → StaysInStep r octets result after
 unfolding StaysInStep
 stays_in_step r octets result after h checkpoint packet sent stands session early tells in_step =
-    let taken = receivers_come_in_step r octets stands.read checkpoint packet stands.tick sent (commands_of packet sent) stands.opens stands.says session.commands session.ordered session.few early tells in_step.received in_step.agrees in
+    let taken = receivers_come_in_step r octets stands.read checkpoint packet stands.tick sent (commands_of packet sent) stands.opens stands.says session.commands session.ordered session.few early tells in_step.received in_step.unfinished in_step.agrees in
     by_answer result h taken
   where
     by_answer : (result : Result Took (ReadError AcceptFault)) → Accepts result after (accepted r octets) → IsTaken r octets packet (below packet_of packet sent) (commands_of packet sent) → TakesInStep r packet sent result after

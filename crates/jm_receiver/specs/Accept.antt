@@ -97,19 +97,25 @@ repaired_using Nothing logs h = h
 repaired_using Fresh logs h = repaired_by (filter (λ log. log.fresh) logs) h
 repaired_using All logs h = repaired_by logs h
 
+-- An unfinished message is kept only where no packet was missed.
+abbrev pub kept_over : (gap : ℕ) → (unfinished : Option (List ℕ)) → Option (List ℕ)
+kept_over gap unfinished = if gap == 0 then unfinished else None
+
 -- the state after the packet, and what is heard: first what repair hands on, then the commands of the section
-abbrev pub heard_in : Received → Contents → Uses → Hearing
-heard_in r c uses = sent_all (repaired_using uses c.logs (record { state = r.state; tick = c.tick; heard = [] })) c.items
+abbrev pub heard_in : Received → Contents → Placed → Hearing
+heard_in r c place =
+    let repaired = repaired_using place.uses c.logs (record { state = r.state; tick = c.tick; heard = []; unfinished = None }) in
+    sent_all (record repaired { unfinished = kept_over place.gap r.unfinished }) c.items
 
 abbrev pub took_at : Placed → Hearing → Received → Received × Took
-took_at place h r = (record r { last = Some place.number; state = h.state }, record { number = place.number; gap = place.gap; heard = h.heard })
+took_at place h r = (record r { last = Some place.number; state = h.state; unfinished = h.unfinished }, record { number = place.number; gap = place.gap; heard = h.heard })
 
 -- the receiver after a packet, and what it took; or why it takes nothing
 unfoldable pub accepted : Received → List ℕ → Result (Received × Took) AcceptFault
 accepted r octets = do
   c ← opened r.ssrc octets
   place ← placed r.last c.number
-  Ok (took_at place (heard_in r c place.uses) r)
+  Ok (took_at place (heard_in r c place) r)
 
 -- The answer and the receiver afterwards are those that are meant, unless memory was refused.
 abbrev pub Accepts : Result Took (ReadError AcceptFault) → Received → Result (Received × Took) AcceptFault → Type 0

@@ -1,5 +1,5 @@
 -- What repair hands on tells a listener most of what it repairs, whatever the state and the logs are.
-use Rattle.std.proofs.Common.{◌≡◌, ℕ, true, false, List, [], refl, subst}
+use Rattle.std.proofs.Common.{◌≡◌, ℕ, true, false, List, [], None, refl, subst}
 use Rattle.jm_state.specs.declared.state.State.{State}
 use Rattle.jm_state.specs.Kept.{IsState}
 use Rattle.jm_state.specs.SettingLaws.{Touched, nothing, SameBut}
@@ -13,7 +13,7 @@ use Rattle.jm_receiver.specs.Repair.{repaired}
 
 -- the hearing of a listener that has this state and has heard nothing
 abbrev pub listening : State → (tick : ℕ) → Hearing
-listening s tick = record { state = s; tick = tick; heard = [] }
+listening s tick = record { state = s; tick = tick; heard = []; unfinished = None }
 
 -- the commands that repair of this state by these logs hands on, in order
 abbrev pub handed_on_by : List Log → State → (tick : ℕ) → List Heard

@@ -9,8 +9,6 @@ use Rattle.jm_cmds.specs.declared.history.Sent.{Sent}
 use Rattle.jm_cmds.specs.History.{below, InOrder}
 use Rattle.jm_cmds.specs.Sent.{packet_of}
 use Rattle.jm_section.specs.declared.item.Item.{Item}
-use Rattle.jm_section.specs.declared.item.What.{What}
-use Rattle.jm_section.specs.declared.item.What.TheVariants.{Whole, Part, Passed}
 use Rattle.ch_sysex.specs.ChapterX.{sysex_logs}
 use Rattle.jm_state.specs.declared.state.State.{State}
 use Rattle.jm_state.specs.Apply.{applied}
@@ -27,13 +25,13 @@ use Rattle.jm_receiver.specs.declared.opening.AcceptFault.{AcceptFault}
 use Rattle.jm_receiver.specs.declared.place.Placed.{Placed}
 use Rattle.jm_receiver.specs.declared.place.Uses.TheVariants.{All}
 use Rattle.jm_receiver.specs.declared.receiver.Took.{Took}
-use Rattle.jm_receiver.specs.Accept.{Contents, opened, placed, used_after, repaired_by, repaired_using, heard_in, took_at, accepted}
+use Rattle.jm_receiver.specs.Accept.{Contents, opened, placed, used_after, repaired_by, repaired_using, kept_over, heard_in, took_at, accepted}
 use Rattle.jm_receiver.specs.Agreement.{Agrees}
 use Rattle.jm_receiver.specs.BankHeard.{no_programs, no_controls}
 use Rattle.jm_receiver.specs.Follows.{Follows, self_follows}
 use Rattle.jm_receiver.specs.FreshLogs.{fresh_of}
 use Rattle.jm_receiver.specs.HandedOn.{repair_handed_on}
-use Rattle.jm_receiver.specs.Heard.{what_heard, sent_also, sent_all}
+use Rattle.jm_receiver.specs.Heard.{command_said, heard_if, sent_also, sent_all}
 use Rattle.jm_receiver.specs.HeardLaw.{listening}
 use Rattle.jm_receiver.specs.HeardStates.{untold, all_followed, journal_follows, fresh_follows}
 use Rattle.jm_receiver.specs.InStep.{first_lacking, CanTell, IsOfStream}
@@ -79,16 +77,15 @@ all_applied t s command f =
       poly = λ channel note l k. a.poly channel note l k ∙ ap (said (poly_says channel note command)) (f.poly channel note l k) ∙ sym (b.poly channel note l k);
     }
 
-what_told : (s : State) (h : Hearing) (what : What) → Told s h → Told s (what_heard h what)
-what_told s h (Whole command) f =
+said_told : (s : State) (h : Hearing) (said : Option Command) → Told s h → Told s (heard_if h said)
+said_told s h None f = f
+said_told s h (Some command) f =
     subst (λ t. Follows no_programs no_controls t (applied h.state command))
     (sym (fold-append (λ (t : State) (one : Heard). applied t one.command) s h.heard _)) (all_applied (listened s h.heard) h.state command f)
-what_told s h (Part kind octets) f = f
-what_told s h (Passed octet) f = f
 
 items_told : (s : State) (h : Hearing) (items : List Item) → Told s h → Told s (fold sent_also h items)
 items_told s h [] f = f
-items_told s h (item ∷ items) f = items_told s (sent_also h item) items (what_told s (record h { tick = (h.tick + item.delta) % 2 ^ 32 }) item.what f)
+items_told s h (item ∷ items) f = items_told s (sent_also h item) items (said_told s (record h { tick = (h.tick + item.delta) % 2 ^ 32 }) (command_said h.unfinished item.what) f)
 
 -- ## The logs that are used
 
@@ -117,11 +114,12 @@ placed_told : (r : Received) (octets : List ℕ) (c : Contents) (place : Placed)
     Told r.state (repaired_using place.uses c.logs (listening r.state c.tick)) → SameBut untold after.state (listened r.state took.heard)
 unfolding accepted sent_all
 placed_told r octets c place after took read found e f =
-    let own : Received × Took = took_at place (heard_in r c place.uses) r in
+    let own : Received × Took = took_at place (heard_in r c place) r in
     let taken : ◌≡◌ {A = Result (Received × Took) AcceptFault} (Ok own) (Ok (after, took)) = rw (read, found) at e in
     let same : own ≡ (after, took) = ok_value own (after, took) taken in
-    let h = fold sent_also (repaired_using place.uses c.logs (listening r.state c.tick)) c.items in
-    let all : SameBut untold h.state (listened r.state h.heard) = all_followed (listened r.state h.heard) h.state (items_told r.state (repaired_using place.uses c.logs (listening r.state c.tick)) c.items f) in
+    let begins : Hearing = record (repaired_using place.uses c.logs (listening r.state c.tick)) { unfinished = kept_over place.gap r.unfinished } in
+    let h = fold sent_also begins c.items in
+    let all : SameBut untold h.state (listened r.state h.heard) = all_followed (listened r.state h.heard) h.state (items_told r.state begins c.items f) in
     subst (λ (p : Received × Took). SameBut untold p.0.state (listened r.state p.1.heard)) same all
 
 pub packets_heard : PacketsAreHeard

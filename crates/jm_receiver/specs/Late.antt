@@ -16,6 +16,7 @@ use Rattle.jm_state.specs.Says.{ended, control_says, wheel_says, note_says, pres
 use Rattle.jm_receiver.specs.declared.receiver.Took.{Took}
 use Rattle.jm_receiver.specs.Receiver.{Received}
 use Rattle.jm_receiver.specs.Accept.{accepted}
+use Rattle.jm_receiver.specs.InStep.{IsLongBegun}
 use Rattle.jm_receiver.specs.Whole.{IsReceived}
 use Rattle.jm_receiver.specs.StaysInStep.{IsPacket}
 
@@ -51,6 +52,7 @@ pub record HasValues (from : ℕ) (s : State) (sent : List Sent) : Type 0 where
 -- state it has each value that a command of the packets from that checkpoint on set or dropped.
 pub record IsLate (from last : ℕ) (r : Received) (sent : List Sent) : Type 0 where
   pub received : IsReceived r
+  pub unfinished : IsLongBegun r.unfinished
   pub number : ℕ
   pub wraps : ℕ
   pub takes : r.last ≡ Some number

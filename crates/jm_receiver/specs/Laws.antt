@@ -85,7 +85,7 @@ ParametersAreRepaired = (channel : ℕ) (nrpn : Bool) (high low : ℕ) → chann
 
 -- A receiver is whole as it begins, each packet that it takes leaves it so, and so does repair by any logs.
 pub record ReceiversStayWhole : Type 0 where
-  pub begins : (ssrc : ℕ) → IsReceived (record { ssrc = ssrc; last = None; state = no_state })
+  pub begins : (ssrc : ℕ) → IsReceived (record { ssrc = ssrc; last = None; state = no_state; unfinished = None })
   pub takes : (r : Received) (octets : List ℕ) (after : Received) (took : Took) → IsReceived r → accepted r octets ≡ Ok (after, took) → IsReceived after
   pub repairs : (s : State) (logs : List Log) → IsWhole s → IsWhole (repaired s logs)
 

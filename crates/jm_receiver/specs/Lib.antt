@@ -53,3 +53,4 @@ pub mod Late
 pub mod ParamsHeard
 pub mod SelectionsHeard
 pub mod PacketsTell
+pub mod SegmentsHeard

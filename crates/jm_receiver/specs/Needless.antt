@@ -3,9 +3,8 @@ use Rattle.std.proofs.Common.{◌≡◌, ℕ, ◌+◌, ◌-◌, ◌%◌, ◌^◌
 use Rattle.std.specs.Prelude.{Result, Ok, Err}
 use Rattle.std.proofs.lemmas.Bool.{cases_Bool, eq-eqb}
 use Rattle.jm_wire.specs.Readers.{◌>>=◌}
+use Rattle.jm_cmds.specs.declared.commands.Command.{Command}
 use Rattle.jm_section.specs.declared.item.Item.{Item}
-use Rattle.jm_section.specs.declared.item.What.{What}
-use Rattle.jm_section.specs.declared.item.What.TheVariants.{Whole, Part, Passed}
 use Rattle.jm_state.specs.declared.state.State.{State}
 use Rattle.jm_state.specs.Apply.{applied}
 use Rattle.jm_reader.specs.declared.logs.Log.{Log}
@@ -17,33 +16,32 @@ use Rattle.jm_receiver.specs.declared.place.Placed.{Placed}
 use Rattle.jm_receiver.specs.declared.place.Uses.{Uses}
 use Rattle.jm_receiver.specs.declared.place.Uses.TheVariants.{Nothing, Fresh, All}
 use Rattle.jm_receiver.specs.declared.receiver.Took.{Took}
-use Rattle.jm_receiver.specs.Accept.{Contents, opened, packets_ahead, placed, placed_ahead, used_after, repaired_by, repaired_using, heard_in, took_at, accepted}
+use Rattle.jm_receiver.specs.Accept.{Contents, opened, packets_ahead, placed, placed_ahead, used_after, repaired_by, repaired_using, kept_over, heard_in, took_at, accepted}
 use Rattle.jm_receiver.specs.FreshLogs.{fresh_of}
 use Rattle.jm_receiver.specs.Group.{all_channels}
 use Rattle.jm_receiver.specs.HandedOn.{resets_handed_on, messages_handed_on, songs_handed_on, group_handed_on, controls_handed_on, channel_handed_on, repair_handed_on}
-use Rattle.jm_receiver.specs.Heard.{what_heard, sent_also, sent_all}
-use Rattle.jm_receiver.specs.InStep.{commands_in}
+use Rattle.jm_receiver.specs.Heard.{left_unfinished, command_said, commands_said, heard_if, sent_also, sent_all}
 use Rattle.jm_receiver.specs.SectionLaws.{items_state, none_repaired}
 use Rattle.jm_receiver.specs.Receiver.{Received}
 use Rattle.jm_receiver.specs.Whole.{ok_value}
 
--- a whole command, heard at this time
-abbrev pub command_held : (tick : ℕ) → What → List Heard
-command_held tick (Whole command) = record { command = command; tick = tick; kind = Sent } ∷ []
-command_held tick (Part kind octets) = []
-command_held tick (Passed octet) = []
+-- a command that an entry says, heard at this time
+abbrev pub command_held : (tick : ℕ) → Option Command → List Heard
+command_held tick None = []
+command_held tick (Some command) = record { command = command; tick = tick; kind = Sent } ∷ []
 
--- What entries of a section hold, behind deltas of this sum: their whole commands in order, each at the packet's timestamp plus all
--- deltas up to its own, modulo 2^32. A command that is left out, told twice or in another order, or whose delta isn't added
--- to those before it, is no such list; nor is one that repair hands on, whose kind is another.
-abbrev pub held : (tick deltas : ℕ) → List Item → List Heard
-held tick deltas [] = []
-held tick deltas (item ∷ items) = command_held ((tick + (deltas + item.delta)) % 2 ^ 32) item.what ++ held tick (deltas + item.delta) items
+-- What entries of a section hold, behind deltas of this sum: the commands that they say in order, each at the packet's timestamp plus all
+-- deltas up to its own, modulo 2^32; of a message in segments, up to its last one. A command that is left out, told twice or in another
+-- order, or whose delta isn't added to those before it, is no such list; nor is one that repair hands on, whose kind is another.
+abbrev pub held : (tick deltas : ℕ) → (unfinished : Option (List ℕ)) → List Item → List Heard
+held tick deltas unfinished [] = []
+held tick deltas unfinished (item ∷ items) =
+    command_held ((tick + (deltas + item.delta)) % 2 ^ 32) (command_said unfinished item.what) ++ held tick (deltas + item.delta) (left_unfinished unfinished item.what) items
 
 -- What is heard of a packet is just what its section holds, and the state is the old one behind those commands.
 pub record HearsJust (r : Received) (c : Contents) (after : Received) (took : Took) : Type 0 where
-  pub heard : took.heard ≡ held c.tick 0 c.items
-  pub state : after.state ≡ fold applied r.state (commands_in c.items)
+  pub heard : took.heard ≡ held c.tick 0 (kept_over took.gap r.unfinished) c.items
+  pub state : after.state ≡ fold applied r.state (commands_said (kept_over took.gap r.unfinished) c.items)
 
 -- Where no packet was missed before it, just what its section holds is heard of a packet that is taken, whatever its journal has: behind an
 -- earlier packet always, and as the first one where it has no logs. This excludes repair where the gap is 0, even one that leaves
@@ -54,15 +52,13 @@ NothingNeedlessIsHeard =
 
 -- ## The section
 
-what_held : (h : Hearing) (what : What) → (what_heard h what).heard ≡ h.heard ++ command_held h.tick what
-what_held h (Whole command) = refl
-what_held h (Part kind octets) = sym (append-nil h.heard)
-what_held h (Passed octet) = sym (append-nil h.heard)
+pub said_held : (h : Hearing) (said : Option Command) → (heard_if h said).heard ≡ h.heard ++ command_held h.tick said
+said_held h None = sym (append-nil h.heard)
+said_held h (Some command) = refl
 
-what_tick : (h : Hearing) (what : What) → (what_heard h what).tick ≡ h.tick
-what_tick h (Whole command) = refl
-what_tick h (Part kind octets) = refl
-what_tick h (Passed octet) = refl
+said_tick : (h : Hearing) (said : Option Command) → (heard_if h said).tick ≡ h.tick
+said_tick h None = refl
+said_tick h (Some command) = refl
 
 later_tick : (now tick deltas delta : ℕ) → now % 2 ^ 32 ≡ (tick + deltas) % 2 ^ 32 → (now + delta) % 2 ^ 32 ≡ (tick + (deltas + delta)) % 2 ^ 32
 later_tick now tick deltas delta e = omega (arith, e)
@@ -70,15 +66,17 @@ later_tick now tick deltas delta e = omega (arith, e)
 kept_tick : (n m : ℕ) → n ≡ m % 2 ^ 32 → n % 2 ^ 32 ≡ m % 2 ^ 32
 kept_tick n m e = omega (arith, e)
 
-items_held : (h : Hearing) (tick deltas : ℕ) (items : List Item) → h.tick % 2 ^ 32 ≡ (tick + deltas) % 2 ^ 32 → (fold sent_also h items).heard ≡ h.heard ++ held tick deltas items
+items_held : (h : Hearing) (tick deltas : ℕ) (items : List Item) → h.tick % 2 ^ 32 ≡ (tick + deltas) % 2 ^ 32 → (fold sent_also h items).heard ≡ h.heard ++ held tick deltas h.unfinished items
 items_held h tick deltas [] e = sym (append-nil h.heard)
 items_held h tick deltas (item ∷ items) e =
     let now : Hearing = record h { tick = (h.tick + item.delta) % 2 ^ 32 } in
     let at = later_tick h.tick tick deltas item.delta e in
-    let next = what_tick now item.what ∙ at in
+    let said = command_said h.unfinished item.what in
+    let others = held tick (deltas + item.delta) (left_unfinished h.unfinished item.what) items in
+    let next = said_tick now said ∙ at in
     items_held (sent_also h item) tick (deltas + item.delta) items (kept_tick (sent_also h item).tick (tick + (deltas + item.delta)) next)
-    ∙ ap (λ (heard : List Heard). heard ++ held tick (deltas + item.delta) items) (what_held now item.what ∙ ap (λ (n : ℕ). h.heard ++ command_held n item.what) at)
-    ∙ append_assoc h.heard (command_held ((tick + (deltas + item.delta)) % 2 ^ 32) item.what) (held tick (deltas + item.delta) items)
+    ∙ ap (λ (heard : List Heard). heard ++ others) (said_held now said ∙ ap (λ (n : ℕ). h.heard ++ command_held n said) at)
+    ∙ append_assoc h.heard (command_held ((tick + (deltas + item.delta)) % 2 ^ 32) said) others
 
 -- ## No logs
 
@@ -111,14 +109,16 @@ none_used All logs h none = by_none h logs none
 
 -- ## The packet
 
-pub just_held : (r : Received) (c : Contents) (place : Placed) → used_of place.uses c.logs ≡ [] → HearsJust r c (took_at place (heard_in r c place.uses) r).0 (took_at place (heard_in r c place.uses) r).1
+pub just_held : (r : Received) (c : Contents) (place : Placed) → used_of place.uses c.logs ≡ [] → HearsJust r c (took_at place (heard_in r c place) r).0 (took_at place (heard_in r c place) r).1
 unfolding sent_all
 just_held r c place none =
-    let begins : Hearing = record { state = r.state; tick = c.tick; heard = [] } in
+    let begins : Hearing = record { state = r.state; tick = c.tick; heard = []; unfinished = None } in
+    let unfinished = kept_over place.gap r.unfinished in
     let same : repaired_using place.uses c.logs begins ≡ begins = none_used place.uses c.logs begins none in
+    let own : Hearing = record begins { unfinished = unfinished } in
     record {
-      heard = ap (λ (h : Hearing). (fold sent_also h c.items).heard) same ∙ items_held begins c.tick 0 c.items (kept_zero c.tick);
-      state = ap (λ (h : Hearing). (fold sent_also h c.items).state) same ∙ items_state begins c.items;
+      heard = ap (λ (h : Hearing). (fold sent_also (record h { unfinished = unfinished }) c.items).heard) same ∙ items_held own c.tick 0 c.items (kept_zero c.tick);
+      state = ap (λ (h : Hearing). (fold sent_also (record h { unfinished = unfinished }) c.items).state) same ∙ items_state own c.items;
     }
   where
     kept_zero : (tick : ℕ) → tick % 2 ^ 32 ≡ (tick + 0) % 2 ^ 32
@@ -128,22 +128,22 @@ just_held r c place none =
 abbrev pub UsedNone : Option ℕ → Contents → Took → Type 0
 UsedNone last c took = (place : Placed) → placed last c.number ≡ Ok place → place.gap ≡ took.gap → used_of place.uses c.logs ≡ []
 
-taken_just : (r : Received) (c : Contents) (place : Placed) (after : Received) (took : Took) → (place.gap ≡ took.gap → used_of place.uses c.logs ≡ []) → ◌≡◌ {A = Result (Received × Took) AcceptFault} (Ok (took_at place (heard_in r c place.uses) r)) (Ok (after, took)) → HearsJust r c after took
+taken_just : (r : Received) (c : Contents) (place : Placed) (after : Received) (took : Took) → (place.gap ≡ took.gap → used_of place.uses c.logs ≡ []) → ◌≡◌ {A = Result (Received × Took) AcceptFault} (Ok (took_at place (heard_in r c place) r)) (Ok (after, took)) → HearsJust r c after took
 taken_just r c place after took none e =
-    let same : took_at place (heard_in r c place.uses) r ≡ (after, took) = ok_value (took_at place (heard_in r c place.uses) r) (after, took) e in
-    let first : (took_at place (heard_in r c place.uses) r).0 ≡ after = ap (λ (p : Received × Took). p.0) same in
-    let second : (took_at place (heard_in r c place.uses) r).1 ≡ took = ap (λ (p : Received × Took). p.1) same in
+    let same : took_at place (heard_in r c place) r ≡ (after, took) = ok_value (took_at place (heard_in r c place) r) (after, took) e in
+    let first : (took_at place (heard_in r c place) r).0 ≡ after = ap (λ (p : Received × Took). p.0) same in
+    let second : (took_at place (heard_in r c place) r).1 ≡ took = ap (λ (p : Received × Took). p.1) same in
     let gap : place.gap ≡ took.gap = ap (λ (t : Took). t.gap) second in
     rw (← first, ← second) (just_held r c place (none gap))
 
-placed_just : (r : Received) (c : Contents) (o : Result Placed AcceptFault) (after : Received) (took : Took) → placed r.last c.number ≡ o → UsedNone r.last c took → (o >>= (λ place. Ok (took_at place (heard_in r c place.uses) r))) ≡ Ok (after, took) → HearsJust r c after took
+placed_just : (r : Received) (c : Contents) (o : Result Placed AcceptFault) (after : Received) (took : Took) → placed r.last c.number ≡ o → UsedNone r.last c took → (o >>= (λ place. Ok (took_at place (heard_in r c place) r))) ≡ Ok (after, took) → HearsJust r c after took
 placed_just r c (Ok place) after took found none e = taken_just r c place after took (none place found) e
 placed_just r c (Err fault) after took found none e = absurd cc
 
 pub accepted_just : (r : Received) (octets : List ℕ) (c : Contents) (after : Received) (took : Took) → opened r.ssrc octets ≡ Ok c → accepted r octets ≡ Ok (after, took) → UsedNone r.last c took → HearsJust r c after took
 unfolding accepted
 accepted_just r octets c after took read e none =
-    let open_too : (placed r.last c.number >>= (λ place. Ok (took_at place (heard_in r c place.uses) r))) ≡ Ok (after, took) = rw read at e in
+    let open_too : (placed r.last c.number >>= (λ place. Ok (took_at place (heard_in r c place) r))) ≡ Ok (after, took) = rw read at e in
     placed_just r c (placed r.last c.number) after took refl none open_too
 
 -- ## The place

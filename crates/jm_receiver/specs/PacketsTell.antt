@@ -12,7 +12,7 @@ use Rattle.jm_receiver.specs.declared.receiver.Took.{Took}
 use Rattle.jm_receiver.specs.Receiver.{Received}
 use Rattle.jm_receiver.specs.Accept.{Contents, opened, accepted}
 use Rattle.jm_receiver.specs.Agreement.{is_crowded, Agrees}
-use Rattle.jm_receiver.specs.InStep.{first_lacking, CanTell, IsOfStream}
+use Rattle.jm_receiver.specs.InStep.{first_lacking, CanTell, IsLongBegun, IsOfStream}
 use Rattle.jm_receiver.specs.Listened.{listened}
 use Rattle.jm_receiver.specs.Whole.{IsReceived}
 
@@ -27,4 +27,4 @@ abbrev pub PacketsTellParams : Type 0
 PacketsTellParams =
     (r : Received) (octets : List ℕ) (c : Contents) (checkpoint packet tick : ℕ) (sent own : List Sent) (after : Received) (took : Took) → opened r.ssrc octets ≡ Ok c → IsOfStream checkpoint packet tick sent own c →
     AreCommands sent → InOrder packet_of sent → sysex_logs checkpoint (below packet_of packet sent) ≤ 128 → checkpoint ≤ first_lacking r.last → CanTell r.last packet →
-    IsReceived r → Agrees r.state (below packet_of (first_lacking r.last) sent) → accepted r octets ≡ Ok (after, took) → TellsParams after.state (listened r.state took.heard) (below packet_of packet sent ++ own)
+    IsReceived r → IsLongBegun r.unfinished → Agrees r.state (below packet_of (first_lacking r.last) sent) → accepted r octets ≡ Ok (after, took) → TellsParams after.state (listened r.state took.heard) (below packet_of packet sent ++ own)

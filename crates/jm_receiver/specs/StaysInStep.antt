@@ -14,14 +14,14 @@ use Rattle.jm_receiver.specs.Receiver.{Received}
 use Rattle.jm_receiver.specs.Accept.{Contents, opened}
 use Rattle.jm_receiver.specs.Whole.{IsReceived}
 use Rattle.jm_receiver.specs.Agreement.{Agrees}
-use Rattle.jm_receiver.specs.InStep.{first_lacking, CanTell, IsOfStream}
+use Rattle.jm_receiver.specs.InStep.{first_lacking, CanTell, IsLongBegun, IsOfStream}
 
 -- the commands of this packet
 abbrev pub commands_of : (packet : ℕ) → List Sent → List Sent
 commands_of packet sent = since packet_of packet (below packet_of (packet + 1) sent)
 
 -- The octets are this packet of the session that sent these commands: they are read as its number's low 16 bits, the logs of its journal
--- for this checkpoint, which packet 0 doesn't have, and its commands.
+-- for this checkpoint, which packet 0 doesn't have, and a section of its commands.
 pub record IsPacket (ssrc : ℕ) (octets : List ℕ) (checkpoint packet : ℕ) (sent : List Sent) : Type 0 where
   pub tick : ℕ
   pub read : Contents
@@ -35,10 +35,11 @@ pub record IsSession (checkpoint packet : ℕ) (sent : List Sent) : Type 0 where
   pub ordered : InOrder packet_of sent
   pub few : sysex_logs checkpoint (below packet_of packet sent) ≤ 128
 
--- A receiver is in step after the last packet that it took, or before packet 0: it is whole, and its state is what the packets up to
--- that one leave, the parameters of crowded channels aside.
+-- A receiver is in step after the last packet that it took, or before packet 0: it is whole, its state is what the packets up to
+-- that one leave, the parameters of crowded channels aside, and an unfinished message is as long as a session's.
 pub record IsInStep (r : Received) (sent : List Sent) : Type 0 where
   pub received : IsReceived r
+  pub unfinished : IsLongBegun r.unfinished
   pub agrees : Agrees r.state (below packet_of (first_lacking r.last) sent)
 
 -- The packet was taken, under its own number, which is told, with how many packets were lost since the last one; and the receiver is in step

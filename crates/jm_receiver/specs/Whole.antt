@@ -20,8 +20,6 @@ use Rattle.jm_cmds.specs.Param.{same_param}
 use Rattle.jm_cmds.specs.Pedal.{pedal_step, pedal_event}
 use Rattle.jm_cmds.specs.Selection.{param_command}
 use Rattle.jm_section.specs.declared.item.Item.{Item}
-use Rattle.jm_section.specs.declared.item.What.{What}
-use Rattle.jm_section.specs.declared.item.What.TheVariants.{Whole as WholeCommand, Part, Passed}
 use Rattle.jm_state.specs.declared.channel.ChannelState.{ChannelState}
 use Rattle.jm_state.specs.declared.entered.Entry.{Entry}
 use Rattle.jm_state.specs.declared.entered.Halves.{Halves}
@@ -44,9 +42,9 @@ use Rattle.jm_receiver.specs.declared.place.Placed.{Placed}
 use Rattle.jm_receiver.specs.declared.place.Uses.{Uses}
 use Rattle.jm_receiver.specs.declared.place.Uses.TheVariants.{Nothing, Fresh, All}
 use Rattle.jm_receiver.specs.declared.receiver.Took.{Took}
-use Rattle.jm_receiver.specs.Accept.{Contents, opened, placed, repaired_using, heard_in, took_at, accepted}
+use Rattle.jm_receiver.specs.Accept.{Contents, opened, placed, repaired_using, kept_over, heard_in, took_at, accepted}
 use Rattle.jm_receiver.specs.Group.{command_of, all_channels}
-use Rattle.jm_receiver.specs.Heard.{what_heard, sent_also, sent_all}
+use Rattle.jm_receiver.specs.Heard.{command_said, heard_if, sent_also, sent_all}
 use Rattle.jm_receiver.specs.Order.{in_order, with_log, session_done, repaired-fold, channel_log_is, session_log_is, message_is, high_is}
 use Rattle.jm_receiver.specs.ParamKeys.{keys_of, distinct_entered}
 use Rattle.jm_receiver.specs.ParamLogs.{put_left, high_in, low_in, half_in, param}
@@ -286,47 +284,48 @@ repaired_whole s logs is =
 
 -- ## The receiver
 
--- What holds of a receiver: its state is whole, and before it has taken a packet all parts are absent.
+-- What holds of a receiver: its state is whole, and before it has taken a packet all parts are absent and no message is unfinished.
 pub record IsReceived (r : Received) : Type 0 where
   pub whole : IsWhole r.state
   pub begins : r.last ≡ None → r.state ≡ no_state
+  pub empty : r.last ≡ None → r.unfinished ≡ None
 
-heard_whole : (h : Hearing) (what : What) → IsWhole h.state → IsWhole (what_heard h what).state
-heard_whole h (WholeCommand command) is = applied_whole h.state command is
-heard_whole h (Part kind octets) is = is
-heard_whole h (Passed octet) is = is
+said_whole : (h : Hearing) (said : Option Command) → IsWhole h.state → IsWhole (heard_if h said).state
+said_whole h None is = is
+said_whole h (Some command) is = applied_whole h.state command is
 
 sent_whole : (h : Hearing) (items : List Item) → IsWhole h.state → IsWhole (fold sent_also h items).state
 sent_whole h [] is = is
-sent_whole h (item ∷ items) is = sent_whole (sent_also h item) items (heard_whole (record h { tick = (h.tick + item.delta) % 2 ^ 32 }) item.what is)
+sent_whole h (item ∷ items) is = sent_whole (sent_also h item) items (said_whole (record h { tick = (h.tick + item.delta) % 2 ^ 32 }) (command_said h.unfinished item.what) is)
 
 pub used_whole : (uses : Uses) (logs : List Log) (h : Hearing) → IsWhole h.state → IsWhole (repaired_using uses logs h).state
 used_whole Nothing logs h is = is
 used_whole Fresh logs h is = repaired_whole h.state (filter (λ log. log.fresh) logs) is
 used_whole All logs h is = repaired_whole h.state logs is
 
-hearing_whole : (r : Received) (c : Contents) (uses : Uses) → IsWhole r.state → IsWhole (heard_in r c uses).state
+hearing_whole : (r : Received) (c : Contents) (place : Placed) → IsWhole r.state → IsWhole (heard_in r c place).state
 unfolding sent_all
-hearing_whole r c uses is =
-    sent_whole (repaired_using uses c.logs (record { state = r.state; tick = c.tick; heard = [] })) c.items
-    (used_whole uses c.logs (record { state = r.state; tick = c.tick; heard = [] }) is)
+hearing_whole r c place is =
+    let begins : Hearing = record { state = r.state; tick = c.tick; heard = []; unfinished = None } in
+    sent_whole (record (repaired_using place.uses c.logs begins) { unfinished = kept_over place.gap r.unfinished }) c.items (used_whole place.uses c.logs begins is)
 
 pub ok_value : {A E : Type 0} → (a b : A) → ◌≡◌ {A = Result A E} (Ok a) (Ok b) → a ≡ b
 ok_value a b e = cc
 
-taken_whole : (r : Received) (c : Contents) (place : Placed) (after : Received) (took : Took) → IsReceived r → ◌≡◌ {A = Result (Received × Took) AcceptFault} (Ok (took_at place (heard_in r c place.uses) r)) (Ok (after, took)) → IsReceived after
+taken_whole : (r : Received) (c : Contents) (place : Placed) (after : Received) (took : Took) → IsReceived r → ◌≡◌ {A = Result (Received × Took) AcceptFault} (Ok (took_at place (heard_in r c place) r)) (Ok (after, took)) → IsReceived after
 taken_whole r c place after took is e =
-    let same : (took_at place (heard_in r c place.uses) r).0 ≡ after = ap (λ (p : Received × Took). p.0) (ok_value (took_at place (heard_in r c place.uses) r) (after, took) e) in
+    let same : (took_at place (heard_in r c place) r).0 ≡ after = ap (λ (p : Received × Took). p.0) (ok_value (took_at place (heard_in r c place) r) (after, took) e) in
     rw (← same) (record {
-      whole = hearing_whole r c place.uses is.whole;
+      whole = hearing_whole r c place is.whole;
       begins = λ n. absurd (let no : ◌≡◌ {A = Option ℕ} (Some place.number) None = n in cc);
+      empty = λ n. absurd (let no : ◌≡◌ {A = Option ℕ} (Some place.number) None = n in cc);
     })
 
-placed_whole : (r : Received) (c : Contents) (o : Result Placed AcceptFault) (after : Received) (took : Took) → IsReceived r → (o >>= (λ place. Ok (took_at place (heard_in r c place.uses) r))) ≡ Ok (after, took) → IsReceived after
+placed_whole : (r : Received) (c : Contents) (o : Result Placed AcceptFault) (after : Received) (took : Took) → IsReceived r → (o >>= (λ place. Ok (took_at place (heard_in r c place) r))) ≡ Ok (after, took) → IsReceived after
 placed_whole r c (Ok place) after took is e = taken_whole r c place after took is e
 placed_whole r c (Err fault) after took is e = absurd cc
 
-opened_whole : (r : Received) (o : Result Contents AcceptFault) (after : Received) (took : Took) → IsReceived r → (o >>= (λ c. placed r.last c.number >>= (λ place. Ok (took_at place (heard_in r c place.uses) r)))) ≡ Ok (after, took) → IsReceived after
+opened_whole : (r : Received) (o : Result Contents AcceptFault) (after : Received) (took : Took) → IsReceived r → (o >>= (λ c. placed r.last c.number >>= (λ place. Ok (took_at place (heard_in r c place) r)))) ≡ Ok (after, took) → IsReceived after
 opened_whole r (Ok c) after took is e = placed_whole r c (placed r.last c.number) after took is e
 opened_whole r (Err fault) after took is e = absurd cc
 
@@ -335,5 +334,5 @@ pub accepted_whole : (r : Received) (octets : List ℕ) (after : Received) (took
 unfolding accepted
 accepted_whole r octets after took is e = opened_whole r (opened r.ssrc octets) after took is e
 
-pub new_whole : (ssrc : ℕ) → IsReceived (record { ssrc = ssrc; last = None; state = no_state })
-new_whole ssrc = record { whole = none_whole; begins = λ n. refl }
+pub new_whole : (ssrc : ℕ) → IsReceived (record { ssrc = ssrc; last = None; state = no_state; unfinished = None })
+new_whole ssrc = record { whole = none_whole; begins = λ n. refl; empty = λ n. refl }

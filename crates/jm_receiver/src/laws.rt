@@ -18,6 +18,7 @@ ghost use Rattle.jm_receiver.specs.HeardPackets.{PacketsAreHeard};
 ghost use Rattle.jm_receiver.specs.ParamsHeard.{ParametersAreHeard};
 ghost use Rattle.jm_receiver.specs.SelectionsHeard.{SelectionsAreHeard};
 ghost use Rattle.jm_receiver.specs.PacketsTell.{PacketsTellParams};
+ghost use Rattle.jm_receiver.specs.SegmentsHeard.{SegmentsAreHeardOnce};
 
 /// The program of each channel is repaired, with the bank that it was chosen with.
 #[tactic(auto, using(crate::specs::ProgramLaw::program_repaired))]
@@ -141,14 +142,16 @@ pub fn fresh_logs_bring_in_step()
 /// A whole receiver whose state agrees with all packets before the first one that it lacks takes a later packet of the stream under its
 /// own number, and its state agrees with all packets up to that one: whether none was lost between them, and the journal isn't used;
 /// just one, and the fresh logs alone are; or more, and all are. The packet is 1 to 32,767 ahead of the last one that was taken; the
-/// first one is below 65,536; and the journal's checkpoint isn't later than the first packet that the receiver lacks.
+/// first one is below 65,536; and the journal's checkpoint isn't later than the first packet that the receiver lacks. An unfinished
+/// message has at least 2,046 octets, as the first segments of a session have, before the packet and behind it.
 pub fn receivers_come_in_step()
     ensures { ReceiversComeInStep }
 {}
 
-/// Where no packet was missed before it, what is heard of a packet that is taken is just what its section holds: its whole commands, in
-/// order, each at the packet's timestamp plus the deltas up to it, modulo 2^32. The state is the old one behind them. So it is
-/// behind an earlier packet whatever the journal has, and for the first packet where its journal has no logs.
+/// Where no packet was missed before it, what is heard of a packet that is taken is just what its section holds: its whole commands, and
+/// each message whose last segment is in it, in order, each at the packet's timestamp plus the deltas up to it, modulo 2^32. The
+/// state is the old one behind them. So it is behind an earlier packet whatever the journal has, and for the first packet where
+/// its journal has no logs.
 pub fn nothing_needless_is_heard()
     ensures { NothingNeedlessIsHeard }
 {}
@@ -214,4 +217,11 @@ pub fn selections_are_heard()
 /// song position, time code and the pedal's toggles alone untold.
 pub fn packets_tell_parameters()
     ensures { PacketsTellParams }
+{}
+
+/// A System Exclusive message that comes in segments, in packets one behind another each of which the receiver takes, is heard once, whole, with
+/// the low 32 bits of its tick, and nothing else is heard of these packets. So it is however its octets, at most 65,536, are divided. Before
+/// the first of them the receiver had taken the packet before, or none where the first is packet 0.
+pub fn segments_are_heard_once()
+    ensures { SegmentsAreHeardOnce }
 {}

@@ -2,14 +2,14 @@
 
 ghost use Rattle.std.specs.Prelude.{◌≡◌, None, IfOk, OnErr};
 ghost use Rattle.jm_state.specs.Parts.{no_state};
-ghost use Rattle.jm_receiver.specs.Accept.{contents, repaired_by, repaired_using, heard_in, accepted, Accepts};
+ghost use Rattle.jm_receiver.specs.Accept.{contents, repaired_by, repaired_using, kept_over, heard_in, accepted, Accepts};
 ghost use Rattle.jm_receiver.specs.StaysInStep.{StaysInStep};
 
 use crate::heard::{HeardList, Hearing};
 use crate::opening::{AcceptFault, Opened, open};
-use crate::place::{Uses, find_place};
+use crate::place::{Placed, Uses, find_place};
 use crate::repair::repair_state;
-use jm_cmds::ReadError;
+use jm_cmds::{ReadError, Sysex};
 use jm_reader::{Log, Logs};
 use jm_state::State;
 use std::alloc::{AllocError, Global};
@@ -27,13 +27,14 @@ pub struct Took {
 }
 
 /// A receiver of one stream of a session. Contracts see it as a record: whose stream it takes, the number of the last packet
-/// that it took and its state.
+/// that it took, its state, and the data octets of an unfinished message.
 #[derive(Debug, Drop)]
 pub struct Receiver {
     alloc: Global,
     ssrc: u32,
     last: Option<u64>,
     state: State,
+    unfinished: Option<Sysex>,
 }
 
 impl Model for Receiver {
@@ -41,7 +42,7 @@ impl Model for Receiver {
 
     ghost Value = { Received };
 
-    ghost view = { λ r. record { ssrc = r.ssrc; last = r.last; state = r.state } };
+    ghost view = { λ r. record { ssrc = r.ssrc; last = r.last; state = r.state; unfinished = r.unfinished } };
 }
 
 impl Hearing {
@@ -72,15 +73,16 @@ impl Hearing {
 }
 
 impl Receiver {
-    /// A receiver of the stream of this source. It has taken no packet, and all parts of its state are absent.
+    /// A receiver of the stream of this source. It has taken no packet, all parts of its state are absent, and no message is unfinished.
     pub fn new(ssrc: u32, alloc: Global) -> Result<Receiver, AllocError>
-        ensures { IfOk result (λ r. r ≡ record { ssrc = ssrc; last = None; state = no_state }) }
+        ensures { IfOk result (λ r. r ≡ record { ssrc = ssrc; last = None; state = no_state; unfinished = None }) }
     {
         Ok(Receiver {
             alloc,
             ssrc,
             last: None,
             state: State::new(),
+            unfinished: None,
         })
     }
 
@@ -105,16 +107,31 @@ impl Receiver {
         self.ssrc
     }
 
+    /// A copy of the unfinished message, where no packet was missed.
+    fn keep_over(&self, gap: u64) -> Result<Option<Sysex>, AllocError>
+        ensures { IfOk result (λ unfinished. unfinished ≡ kept_over gap self.now.unfinished) }
+    {
+        if gap != 0 {
+            return Ok(None);
+        }
+        match &self.unfinished {
+            Some(message) => Ok(Some(message.copy(self.alloc)?)),
+            None => Ok(None),
+        }
+    }
+
     /// The state after a packet, and what is heard of it.
-    fn hear(&self, opened: Opened, uses: Uses) -> Result<Hearing, AllocError>
-        ensures { IfOk result (λ h. h ≡ heard_in self.now (contents opened) uses) }
+    fn hear(&self, opened: Opened, place: Placed) -> Result<Hearing, AllocError>
+        ensures { IfOk result (λ h. h ≡ heard_in self.now (contents opened) place) }
     {
         let mut hearing = Hearing {
             state: self.state.copy(),
             tick: opened.tick,
             heard: HeardList::none(self.alloc),
+            unfinished: None,
         };
-        hearing.repair_using(uses, opened.logs, self.alloc)?;
+        hearing.repair_using(place.uses, opened.logs, self.alloc)?;
+        hearing.unfinished = self.keep_over(place.gap)?;
         hearing.hear_items(opened.items.as_slice(), self.alloc)?;
         Ok(hearing)
     }
@@ -130,8 +147,9 @@ impl Receiver {
             Ok(place) => place,
             Err(fault) => return Err(ReadError::Fault(fault)),
         };
-        let hearing = self.hear(opened, place.uses)?;
+        let hearing = self.hear(opened, place)?;
         self.state = hearing.state;
+        self.unfinished = hearing.unfinished;
         self.last = Some(place.number);
         Ok(Took {
             number: place.number,
@@ -145,7 +163,10 @@ impl Receiver {
     /// The first packet that is taken has the number of its 16 bits, and all logs of its journal repair the state. A later one
     /// is 1 to 32,767 ahead of the last: the number grows by that, modulo 2^64. Where no packet was missed between them
     /// the journal isn't used; where one was, the state is repaired by the logs of what came in it, and else by all logs. Then
-    /// the whole commands of the section are applied in order.
+    /// the commands of the section are heard and applied in order: whole ones, and System Exclusive messages that come in segments (section
+    /// 3.2), each with the time of its last segment. An unfinished message is kept for the next packet. It is dropped where a packet was missed
+    /// before that one, at a further first segment, at one that calls it off, at a whole message, and where it would have more than
+    /// 65,536 data octets. Other segments are skipped where none is unfinished.
     ///
     /// Refused, in this order: `Packet` for the header; `OtherSsrc` where the packet is of another stream; `Packet` for the
     /// section; `Journal` where the journal isn't one, also where it isn't used; `Older` where the low 16 bits of the number are

@@ -10,4 +10,6 @@ mod receiver;
 #[cfg(test)]
 mod repair;
 #[cfg(test)]
+mod segments;
+#[cfg(test)]
 mod session;
