@@ -1,1 +1,9 @@
+pub mod PacketLaws
+pub mod PremiseLaws
+pub mod InStepLaws
+pub mod HonestLaws
+pub mod SameLogs
+pub mod SendingLaws
 pub mod SomeHonest
+pub mod LongTold
+pub mod SomeLong

@@ -6,7 +6,7 @@ use Rattle.jm_cmds.specs.Command.{IsCommand}
 use Rattle.jm_state.specs.Parts.{no_state, no_channels, note_of}
 use Rattle.jm_state.specs.Table.{no_values}
 use Rattle.jm_journal.specs.Limits.{fit_of}
-use Rattle.jm_section.specs.Section.{command_text, piece}
+use Rattle.jm_section.specs.Section.{command_text, item_text, what_text}
 use Rattle.jm_receiver.specs.declared.opening.AcceptFault.{AcceptFault}
 use Rattle.jm_receiver.specs.declared.receiver.Took.{Took}
 use Rattle.jm_receiver.specs.Accept.{accepted}
@@ -26,7 +26,7 @@ use Rattle.jm_session.specs.SomeSession.{host, listener, joined, struck, before_
 is_struck : IsCommand (NoteOn 0 60 100)
 is_struck = (omega arith, omega arith, omega arith)
 
-nothing_agrees : Agrees no_state []
+pub nothing_agrees : Agrees no_state []
 nothing_agrees = record {
   song = λ n. refl;
   sequencer = λ n. refl;
@@ -50,7 +50,7 @@ joins_in_step = record {
   commands = (tt, (tt, tt));
   absent = refl;
   joined = refl;
-  in_step = record { ssrc = refl; whole = new_whole 1; agrees = nothing_agrees };
+  in_step = record { ssrc = refl; whole = new_whole 1; unfinished = tt; agrees = nothing_agrees };
   last = omega arith;
 }
 
@@ -62,7 +62,7 @@ abbrev until : Situation
 until = situation_of host joined first_events
 
 plays : IsHonestStep host 2 joined struck
-unfolding free_from fit_of command_text piece
+unfolding free_from fit_of command_text item_text what_text
 plays = record { legal = refl; command = is_struck; stays = refl; reports = tt }
 
 cuts : IsHonestStep host 2 (situation_of host joined (goes struck ∷ [])) (Cut 10)

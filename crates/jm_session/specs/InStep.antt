@@ -5,7 +5,7 @@ use Rattle.jm_cmds.specs.Sent.{packet_of}
 use Rattle.jm_receiver.specs.declared.receiver.Took.{Took}
 use Rattle.jm_receiver.specs.Accept.{accepted}
 use Rattle.jm_receiver.specs.Agreement.{Agrees}
-use Rattle.jm_receiver.specs.InStep.{first_lacking, CanTell}
+use Rattle.jm_receiver.specs.InStep.{first_lacking, CanTell, IsLongBegun}
 use Rattle.jm_receiver.specs.Receiver.{Received}
 use Rattle.jm_receiver.specs.Whole.{IsReceived}
 use Rattle.jm_book.specs.declared.steps.Config.{Config}
@@ -18,10 +18,12 @@ use Rattle.jm_book.specs.Packet.{packet_of as octets_of_cut}
 use Rattle.jm_session.specs.Packets.{number_of}
 use Rattle.jm_session.specs.Premises.{sent_in}
 
--- A receiver of the session's stream is whole, and its state agrees with the commands of all packets up to the last one that it took.
+-- A receiver of the session's stream is whole, its state agrees with the commands of all packets up to the last one that it took, and a message
+-- that is unfinished there is as long as a session's first segment.
 pub record IsInStep (config : Config) (steps : List Step) (r : Received) : Type 0 where
   pub ssrc : r.ssrc ≡ config.ssrc
   pub whole : IsReceived r
+  pub unfinished : IsLongBegun r.unfinished
   pub agrees : Agrees r.state (below packet_of (first_lacking r.last) (sent_in (session_of config steps)))
 
 -- It takes the packet that is cut at this tick, under its own number, which it tells, with how many packets it lost since the last one; and it is

@@ -1,12 +1,8 @@
 pub mod Packets
-pub mod PacketLaws
 pub mod Premises
-pub mod PremiseLaws
 pub mod InStep
-pub mod InStepLaws
 pub mod Honest
-pub mod HonestLaws
-pub mod SameLogs
 pub mod Sending
-pub mod SendingLaws
 pub mod SomeSession
+pub mod LongHeard
+pub mod SomeLongSession

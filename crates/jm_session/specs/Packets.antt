@@ -1,8 +1,7 @@
 -- What the packets of a session are read as: a cut's octets, at a receiver.
-use Rattle.std.specs.Prelude.{ℕ, ◌+◌, ◌%◌, ◌^◌, ◌≡◌, ◌<◌, ◌≤◌, List, [], length, map, drop, Ok}
+use Rattle.std.specs.Prelude.{ℕ, ◌+◌, ◌%◌, ◌^◌, ◌≡◌, ◌<◌, ◌≤◌, List, [], ◌∷◌, length, drop, Option, Some, None, Ok}
 use Rattle.jm_section.specs.declared.item.Item.{Item}
-use Rattle.jm_section.specs.declared.item.What.TheVariants.{Whole}
-use Rattle.jm_section.specs.Section.{Timed, section_of}
+use Rattle.jm_section.specs.Section.{Timed, items_of, section}
 use Rattle.jm_section.specs.Grammar.{Read}
 use Rattle.jm_packet.specs.Reading.{PacketRead, packet_read, journal_place}
 use Rattle.jm_reader.specs.declared.logs.Log.{Log}
@@ -12,6 +11,7 @@ use Rattle.jm_receiver.specs.Accept.{opened}
 use Rattle.jm_book.specs.declared.answers.Cutted.TheVariants as cutted
 use Rattle.jm_book.specs.declared.steps.Config.{Config}
 use Rattle.jm_book.specs.declared.steps.Step.{Step}
+use Rattle.jm_book.specs.Segments.{Segment, part_of}
 use Rattle.jm_book.specs.Stream.{next_packet, next_of, sent_of}
 use Rattle.jm_book.specs.Session.{Session, session_of, checkpoint_of}
 use Rattle.jm_book.specs.Pending.{timed_of}
@@ -33,19 +33,20 @@ tick_of_cut session tick = (next_packet session.stream tick).packet.tick
 abbrev pub timed_of_cut : Session → (tick : ℕ) → List Timed
 timed_of_cut session tick = timed_of (next_of session.stream tick)
 
--- what a receiver is to read of a command
-abbrev pub item_of : Timed → Item
-item_of one = record { delta = one.delta; what = Whole one.command }
+-- what a receiver is to read in a section: the segment of a long command, where the packet holds one, else the commands
+abbrev pub items_by : Option Segment → List Timed → List Item
+items_by None timed = items_of timed
+items_by (Some segment) timed = record { delta = 0; what = part_of segment } ∷ []
 
-abbrev pub items_of : List Timed → List Item
-items_of timed = map item_of timed
+abbrev pub items_of_cut : Session → (tick : ℕ) → List Item
+items_of_cut session tick = items_by (next_packet session.stream tick).packet.part (timed_of_cut session tick)
 
--- its section: just the commands, and that a journal follows, which it does in each packet but packet 0
+-- its section: just these, and that a journal follows, which it does in each packet but packet 0
 abbrev pub section_of_cut : Session → (tick : ℕ) → Read
 section_of_cut session tick = record {
-  items = items_of (timed_of_cut session tick);
+  items = items_of_cut session tick;
   journal = has_journal (number_of session);
-  used = length (section_of (timed_of_cut session tick) (has_journal (number_of session)));
+  used = length (section (items_of_cut session tick) (has_journal (number_of session)));
 }
 
 -- the place of its journal, behind a header of twelve octets and the section
@@ -76,8 +77,8 @@ pub record IsRead (ssrc : ℕ) (session : Session) (tick : ℕ) : Type 0 where
   pub journal : 1 ≤ number_of session → journal_read (drop (journal_begins session tick) (packet_of session tick)) ≡ Ok (record { checkpoint = checkpoint_of session % 65536; logs = logs_of_cut session tick })
   pub nothing : number_of session ≡ 0 → drop (journal_begins session tick) (packet_of session tick) ≡ []
   -- so a receiver of the stream finds in it
-  pub first : number_of session ≡ 0 → opened ssrc (packet_of session tick) ≡ Ok (record { number = 0; tick = tick_of_cut session tick % 2 ^ 32; items = items_of (timed_of_cut session tick); logs = [] })
-  pub later : 1 ≤ number_of session → opened ssrc (packet_of session tick) ≡ Ok (record { number = number_of session % 65536; tick = tick_of_cut session tick % 2 ^ 32; items = items_of (timed_of_cut session tick); logs = logs_of_cut session tick })
+  pub first : number_of session ≡ 0 → opened ssrc (packet_of session tick) ≡ Ok (record { number = 0; tick = tick_of_cut session tick % 2 ^ 32; items = items_of_cut session tick; logs = [] })
+  pub later : 1 ≤ number_of session → opened ssrc (packet_of session tick) ≡ Ok (record { number = number_of session % 65536; tick = tick_of_cut session tick % 2 ^ 32; items = items_of_cut session tick; logs = logs_of_cut session tick })
 
 -- After legal steps, each play of which brings a command within its bounds, the packet of a cut is read so. Its SSRC is the
 -- configuration's, of 32 bits. (Not: a journal of another packet's number or tick; logs of a command that isn't sent yet,

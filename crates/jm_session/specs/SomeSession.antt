@@ -14,7 +14,7 @@ host = record { ssrc = 1; events = 16; name = [] }
 
 -- participant 2 joins before any packet, with a receiver that took none
 abbrev pub listener : Received
-listener = record { ssrc = 1; last = None; state = no_state }
+listener = record { ssrc = 1; last = None; state = no_state; unfinished = None }
 
 abbrev pub joined : Situation
 joined = joined_with (Enter ∷ Join 2 ∷ []) listener

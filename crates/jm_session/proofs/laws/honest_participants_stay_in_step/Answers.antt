@@ -1,4 +1,4 @@
-use Rattle.jm_session.specs.HonestLaws.{honest_stay_in_step}
+use Rattle.jm_session.proofs.HonestLaws.{honest_stay_in_step}
 use Rattle.jm_session.proofs.laws.honest_participants_stay_in_step.Goals as goal
 
 pub returns : goal.returns

@@ -1,4 +1,4 @@
-use Rattle.jm_session.specs.PacketLaws.{packets_are_read}
+use Rattle.jm_session.proofs.PacketLaws.{packets_are_read}
 use Rattle.jm_session.proofs.laws.packets_are_read.Goals as goal
 
 pub returns : goal.returns

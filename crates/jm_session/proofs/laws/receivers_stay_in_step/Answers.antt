@@ -1,4 +1,4 @@
-use Rattle.jm_session.specs.InStepLaws.{stay_in_step}
+use Rattle.jm_session.proofs.InStepLaws.{stay_in_step}
 use Rattle.jm_session.proofs.laws.receivers_stay_in_step.Goals as goal
 
 pub returns : goal.returns

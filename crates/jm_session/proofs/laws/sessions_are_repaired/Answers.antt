@@ -1,4 +1,4 @@
-use Rattle.jm_session.specs.PremiseLaws.{sessions_repaired}
+use Rattle.jm_session.proofs.PremiseLaws.{sessions_repaired}
 use Rattle.jm_session.proofs.laws.sessions_are_repaired.Goals as goal
 
 pub returns : goal.returns

@@ -1,4 +1,4 @@
-use Rattle.jm_session.specs.SendingLaws.{sessions_send_packets as send_packets}
+use Rattle.jm_session.proofs.SendingLaws.{sessions_send_packets as send_packets}
 use Rattle.jm_session.proofs.laws.sessions_send_packets.Goals as goal
 
 pub returns : goal.returns

@@ -51,9 +51,9 @@ use Rattle.jm_book.specs.StreamLaws.{keeps_packets, counts_cuts}
 use Rattle.jm_book.specs.Commands.{HasCommand, HaveCommands}
 use Rattle.jm_session.specs.Packets.{number_of}
 use Rattle.jm_session.specs.Premises.{sent_in}
-use Rattle.jm_session.specs.PremiseLaws.{sent_stays}
+use Rattle.jm_session.proofs.PremiseLaws.{sent_stays}
 use Rattle.jm_session.specs.InStep.{IsInStep, ComesInStep, ReceiversStayInStep}
-use Rattle.jm_session.specs.InStepLaws.{number_by_cut}
+use Rattle.jm_session.proofs.InStepLaws.{number_by_cut}
 use Rattle.jm_session.specs.Honest.{Situation, Event, goes, arrives, situation_after, with_answer, is_one_of, ReportsTaken, IsHonestStep, IsLater, IsHonest, AreHonest, HasLast, JoinsInStep, joined_with, situation_of, Meets, StaysInStep, HonestParticipantsStayInStep}
 
 -- ---- the marks of one SSRC
@@ -200,10 +200,10 @@ same_sent config steps more next l =
     ∙ ap (λ (stream : Stream). below packet_of next (sent_of stream)) (sym (session_stream config steps))
 
 on_in_step : (config : Config) (steps more : List Step) (r : Received) → first_lacking r.last ≤ number_of (session_of config steps) → IsInStep config steps r → IsInStep config (steps ++ more) r
-on_in_step config steps more r l is = record { ssrc = is.ssrc; whole = is.whole; agrees = rw (same_sent config steps more (first_lacking r.last) l) is.agrees }
+on_in_step config steps more r l is = record { ssrc = is.ssrc; whole = is.whole; unfinished = is.unfinished; agrees = rw (same_sent config steps more (first_lacking r.last) l) is.agrees }
 
 was_in_step : (config : Config) (steps more : List Step) (r : Received) → first_lacking r.last ≤ number_of (session_of config steps) → IsInStep config (steps ++ more) r → IsInStep config steps r
-was_in_step config steps more r l is = record { ssrc = is.ssrc; whole = is.whole; agrees = rw (← same_sent config steps more (first_lacking r.last) l) is.agrees }
+was_in_step config steps more r l is = record { ssrc = is.ssrc; whole = is.whole; unfinished = is.unfinished; agrees = rw (← same_sent config steps more (first_lacking r.last) l) is.agrees }
 
 -- ---- lists of steps
 

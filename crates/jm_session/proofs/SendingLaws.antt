@@ -1,5 +1,5 @@
 -- The packets of a session are those of which a receiver's clause speaks.
-use Rattle.std.proofs.Common.{◌≡◌, ℕ, ◌≤◌, eqb, List, [], ◌∷◌, ◌++◌, map, refl, sym, ap, subst, ◌∙◌, inl, inr, arith}
+use Rattle.std.proofs.Common.{◌≡◌, ℕ, ◌≤◌, eqb, List, [], ◌∷◌, ◌++◌, refl, sym, ap, subst, ◌∙◌, inl, inr, arith}
 use Rattle.std.proofs.lemmas.Bool.{cases_Bool, eqb-true}
 use Rattle.std.proofs.lemmas.Bool.Decides.{nat_tests}
 use Rattle.std.proofs.lemmas.List.{append_cancel_left}
@@ -8,7 +8,7 @@ use Rattle.jm_cmds.specs.History.{below, InOrder}
 use Rattle.jm_cmds.specs.Sent.{packet_of}
 use Rattle.ch_sysex.specs.ChapterX.{sysex_logs}
 use Rattle.jm_reader.specs.WrittenJournal.{journal_logs}
-use Rattle.jm_receiver.specs.InStep.{commands_in}
+use Rattle.jm_receiver.specs.InStep.{HoldsCommands}
 use Rattle.jm_receiver.specs.StaysInStep.{commands_of, IsPacket, IsSession}
 use Rattle.jm_receiver.proofs.StepLaws.{with_own}
 use Rattle.jm_book.specs.declared.steps.Config.{Config}
@@ -20,12 +20,12 @@ use Rattle.jm_book.specs.LegalLaws.{taken_apart}
 use Rattle.jm_book.specs.Legal.{IsLegal}
 use Rattle.jm_book.specs.Commands.{HaveCommands}
 use Rattle.jm_book.specs.Packet.{packet_of as octets_of_cut}
-use Rattle.jm_session.specs.Packets.{number_of, tick_of_cut, timed_of_cut, items_of, IsRead, PacketsAreRead}
+use Rattle.jm_session.specs.Packets.{number_of, tick_of_cut, items_of_cut, IsRead, PacketsAreRead}
 use Rattle.jm_session.specs.Premises.{sent_in}
-use Rattle.jm_session.specs.PremiseLaws.{premises_met}
-use Rattle.jm_session.specs.InStepLaws.{own_commands, sent_by_cut, sent_by_then}
-use Rattle.jm_session.specs.HonestLaws.{same_sent, first_have}
-use Rattle.jm_session.specs.SameLogs.{same_logs}
+use Rattle.jm_session.proofs.PremiseLaws.{premises_met}
+use Rattle.jm_session.proofs.InStepLaws.{held, sent_by_cut, sent_by_then}
+use Rattle.jm_session.proofs.HonestLaws.{same_sent, first_have}
+use Rattle.jm_session.proofs.SameLogs.{same_logs}
 use Rattle.jm_session.specs.Sending.{SessionsSendPackets}
 
 module _ (config : Config) (before behind : List Step) (tick : ℕ) (legal : IsLegal config (before ++ Cut tick ∷ behind)) (brings : HaveCommands (before ++ Cut tick ∷ behind)) where
@@ -59,8 +59,8 @@ module _ (config : Config) (before behind : List Step) (tick : ℕ) (legal : IsL
       ∙ sent_by_then config before behind tick
       ∙ sent_by_cut config before tick)
 
-  commands : commands_in (items_of (timed_of_cut (session_of config before) tick)) ≡ map (λ one. one.command) (commands_of number all)
-  commands = own_commands (next_of (session_of config before).stream tick) ∙ ap (λ (list : List Sent). map (λ one. one.command) list) (sym own)
+  commands : HoldsCommands (commands_of number all) (items_of_cut (session_of config before) tick)
+  commands = subst (λ (list : List Sent). HoldsCommands list (items_of_cut (session_of config before) tick)) (sym own) (held config before tick legal_before brings_before)
 
   logs : journal_logs checkpoint number (tick_of_cut (session_of config before) tick) (sent_in (session_of config before)) ≡ journal_logs checkpoint number (tick_of_cut (session_of config before) tick) all
   logs = same_logs checkpoint number (tick_of_cut (session_of config before) tick) (sent_in (session_of config before)) all

@@ -1,20 +1,24 @@
 -- The packets of a session are read again.
-use Rattle.std.proofs.Common.{◌≡◌, ℕ, ◌%◌, ◌^◌, ◌<◌, ◌≤◌, Bool, true, false, List, [], ◌∷◌, ◌++◌, length, drop, Some, None, Result, Ok, Err, All, refl, sym, ap, subst, ◌∙◌, arith, append_assoc, append-nil, length-append}
+use Rattle.std.proofs.Common.{◌≡◌, ℕ, ◌+◌, ◌%◌, ◌^◌, ◌<◌, ◌≤◌, Bool, true, false, List, [], ◌∷◌, ◌++◌, length, drop, Option, Some, None, Result, Ok, Err, All, refl, inl, inr, sym, ap, subst, ◌∙◌, arith, append_assoc, append-nil, length-append}
 use Rattle.std.specs.Prelude.{IsTrue, nat_lt, if◌then◌else◌}
 use Rattle.std.specs.List.{AllByRecursion}
 use Rattle.std.proofs.Math.Seq.{drop-append_seam}
-use Rattle.std.proofs.lemmas.Bool.{ltb-true, lt-ltb, eq-eqb, and_parts}
+use Rattle.std.proofs.lemmas.Bool.{cases_Bool, ltb-true, lt-ltb, eq-eqb, and_parts}
 use Rattle.std.proofs.lemmas.List.Elements.{All-from_recursion}
 use Rattle.jm_cmds.specs.declared.history.Sent.{Sent}
-use Rattle.jm_cmds.specs.Command.{IsCommand}
+use Rattle.jm_cmds.specs.declared.commands.Command.{Command}
+use Rattle.jm_cmds.specs.Command.{IsCommand, is_long}
 use Rattle.jm_cmds.specs.History.{below}
 use Rattle.jm_cmds.specs.Sent.{packet_of as sent_packet}
 use Rattle.jm_section.specs.declared.item.Item.{Item}
 use Rattle.jm_section.specs.declared.reading.SectionFault.{SectionFault}
-use Rattle.jm_section.specs.Section.{Timed, timed, list_text, section_of, is_whole, IsWritable}
+use Rattle.jm_section.specs.Section.{Timed, list_text, header as section_header, segment_last, items_of, item_of, item_text, what_text, items_text, section, is_written, IsWritable}
+use Rattle.jm_section.specs.Pieces.{items_text-commands}
+use Rattle.jm_section.specs.declared.item.What.TheVariants.{Whole}
+use Rattle.jm_section.specs.declared.next.Place.TheVariants.{First}
 use Rattle.jm_section.specs.Grammar.{Read}
 use Rattle.jm_section.specs.Reading.{section_read}
-use Rattle.jm_section.specs.Laws.{HasCommand, SectionsReadBack}
+use Rattle.jm_section.specs.Laws.{IsWhat, SectionsReadBack}
 use Rattle.jm_packet.specs.declared.header.Header.{Header}
 use Rattle.jm_packet.specs.declared.reading.PacketFault.{PacketFault}
 use Rattle.jm_packet.specs.Header.{header}
@@ -28,34 +32,30 @@ use Rattle.jm_reader.specs.WrittenJournal.{journal_again}
 use Rattle.jm_receiver.specs.Accept.{of_journal, logs_read, opened}
 use Rattle.jm_book.specs.declared.steps.Config.{Config}
 use Rattle.jm_book.specs.declared.steps.Step.{Step}
-use Rattle.jm_book.specs.Stream.{Stream, stream_of, as_sent, sent_of, pending_of, next_of}
+use Rattle.jm_book.specs.Stream.{Stream, Entry, stream_of, as_sent, sent_of, pending_of, number_of_pending, next_packet, next_of, entries_sent}
+use Rattle.jm_book.specs.Segments.{Segment, segments_in, next_segment, part_of, text_of}
+use Rattle.jm_book.specs.SegmentLaws.{IsSectionPart, command_parts}
+use Rattle.jm_book.specs.Waiting.{WaitOfOne, WaitAlone}
+use Rattle.jm_book.specs.InTurnLaws.{waits_alone}
 use Rattle.jm_book.specs.Session.{Session, session_of, checkpoint_of, session_stream}
 use Rattle.jm_book.specs.Pending.{timed_after, timed_of, have_fields}
-use Rattle.jm_book.specs.Packet.{header_of, has_journal, journal_of, packet_text, packet_of, journal_of_some, journal_of_none}
+use Rattle.jm_book.specs.Packet.{header_of, has_journal, journal_of, list_of, packet_text, packet_of, journal_of_some, journal_of_none}
 use Rattle.jm_book.specs.Legal.{IsLegal}
 use Rattle.jm_book.specs.LimitLaws.{legal_limits, sent_below}
 use Rattle.jm_book.specs.PeerLaws.{peers_come}
 use Rattle.jm_book.specs.SlowestLaws.{stays_near}
-use Rattle.jm_book.specs.StreamConduct.{IsOnePacket}
+use Rattle.jm_book.specs.StreamConduct.{IsOnePacket, ArePackets}
 use Rattle.jm_book.specs.Commands.{HaveCommands, AreCommands}
-use Rattle.jm_book.specs.CommandLaws.{keeps_commands, first_commands, later_commands}
+use Rattle.jm_book.specs.CommandLaws.{commands_any, keeps_commands, first_commands, later_commands}
 use Rattle.jm_book.proofs.Fitting.{timed_any, packets_fit}
-use Rattle.jm_session.specs.Packets.{number_of, tick_of_cut, timed_of_cut, item_of, items_of, section_of_cut, journal_begins, logs_of_cut, read_of_cut, IsRead, PacketsAreRead, CheckpointsAreTold}
+use Rattle.jm_session.specs.Packets.{number_of, tick_of_cut, items_by, items_of_cut, section_of_cut, journal_begins, logs_of_cut, read_of_cut, IsRead, PacketsAreRead, CheckpointsAreTold}
 
 -- ---- the section
-
-timed_again : (ts : List Timed) → timed (items_of ts) ≡ ts
-timed_again [] = refl
-timed_again (one ∷ ts) = ap (λ (rest : List Timed). one ∷ rest) (timed_again ts)
 
 -- what holds of each command holds of its item
 items_all : (Q : Timed → Type 0) (P : Item → Type 0) → ((one : Timed) → Q one → P (item_of one)) → (ts : List Timed) → AllByRecursion Q ts → AllByRecursion P (items_of ts)
 items_all Q P each [] h = tt
 items_all Q P each (one ∷ ts) h = (each one h.0, items_all Q P each ts h.1)
-
-are_whole : (ts : List Timed) → AllByRecursion (λ item. IsTrue (is_whole item.what)) (items_of ts)
-are_whole [] = tt
-are_whole (one ∷ ts) = (refl, are_whole ts)
 
 fields_small : (ts : List Timed) → have_fields ts ≡ true → AllByRecursion (λ (one : Timed). one.delta < 2 ^ 28) ts
 fields_small [] h = tt
@@ -85,28 +85,98 @@ first_is : (item : Item) (items others : List Item) → items ≡ item ∷ other
 unfolding first_delta
 first_is item items others e = ap first_delta e
 
--- the commands have a section
-are_writable : (sent : List Sent) → length (list_text (timed_of sent)) ≤ 4095 → have_fields (timed_of sent) ≡ true → IsWritable (items_of (timed_of sent))
-are_writable sent short fields =
+-- what holds of pending commands holds where they are sent
+timed_all : (P : Command → Type 0) (before number : ℕ) (pending : List Entry) → AllByRecursion (λ (one : Entry). P one.command) pending → AllByRecursion (λ (one : Timed). P one.command) (timed_after before (as_sent number pending))
+timed_all P before number [] h = tt
+timed_all P before number (one ∷ others) h = (h.0, timed_all P one.tick number others h.1)
+
+all_pending : (P : Command → Type 0) (number : ℕ) (pending : List Entry) → AllByRecursion (λ (one : Entry). P one.command) pending → AllByRecursion (λ (one : Timed). P one.command) (timed_of (as_sent number pending))
+all_pending P number [] h = tt
+all_pending P number (one ∷ others) h = timed_all P one.tick number (one ∷ others) h
+
+is_written_whole : (command : Command) → is_long command ≡ false → IsTrue (is_written (Whole command))
+is_written_whole command short = rw short refl
+
+-- items that have a section, each within its bounds
+pub record AreSent (items : List Item) : Type 0 where
+  pub writable : IsWritable items
+  pub within : All (λ item. IsWhat item.what) items
+
+-- commands that aren't long
+commands_sent : (number : ℕ) (pending : List Entry) → IsOnePacket pending → AllByRecursion (λ (one : Entry). is_long one.command ≡ false) pending → AreCommands (as_sent number pending) → AreSent (items_of (timed_of (as_sent number pending)))
+commands_sent number pending fits short are =
+    let sent = as_sent number pending in
     let items = items_of (timed_of sent) in
+    let any = timed_any number 0 pending in
+    let fields : have_fields (timed_of sent) ≡ true = rw any fits.fields in
+    let few : length (list_text (timed_of sent)) ≤ 4095 = rw any fits.short in
     record {
-      whole = All-from_recursion (λ item. IsTrue (is_whole item.what)) items (are_whole (timed_of sent));
-      first = λ item others e. sym (first_is item items others e) ∙ begins_at_zero sent;
-      deltas = All-from_recursion (λ item. item.delta < 2 ^ 28) items (items_all (λ one. one.delta < 2 ^ 28) (λ item. item.delta < 2 ^ 28) (λ one l. l) (timed_of sent) (fields_small (timed_of sent) fields));
-      short = rw (timed_again (timed_of sent)) short;
+      writable = record {
+        written = All-from_recursion (λ item. IsTrue (is_written item.what)) items (items_all (λ one. is_long one.command ≡ false) (λ item. IsTrue (is_written item.what)) (λ one h. is_written_whole one.command h) (timed_of sent) (all_pending (λ command. is_long command ≡ false) number pending short));
+        first = λ item others e. sym (first_is item items others e) ∙ begins_at_zero sent;
+        deltas = All-from_recursion (λ item. item.delta < 2 ^ 28) items (items_all (λ one. one.delta < 2 ^ 28) (λ item. item.delta < 2 ^ 28) (λ one l. l) (timed_of sent) (fields_small (timed_of sent) fields));
+        short = rw (items_text-commands First (timed_of sent)) few;
+      };
+      within = All-from_recursion (λ item. IsWhat item.what) items (items_all (λ one. IsCommand one.command) (λ item. IsWhat item.what) (λ one h. h) (timed_of sent) (all_timed sent are));
     }
 
-have_items : (sent : List Sent) → AreCommands sent → All (λ item. HasCommand item.what) (items_of (timed_of sent))
-have_items sent are =
-    All-from_recursion (λ item. HasCommand item.what) (items_of (timed_of sent))
-    (items_all (λ one. IsCommand one.command) (λ item. HasCommand item.what) (λ one h. h) (timed_of sent) (all_timed sent are))
+-- a segment
+part_sent : (segment : Segment) → IsSectionPart segment → length segment.octets ≤ 2046 → AreSent (record { delta = 0; what = part_of segment } ∷ [])
+unfolding item_text what_text first_delta
+part_sent segment is few =
+    let item : Item = record { delta = 0; what = part_of segment } in
+    let items : List Item = item ∷ [] in
+    let written : IsTrue (is_written (part_of segment)) = is.written in
+    let text : length (text_of segment) ≡ length segment.octets + 2 = omega (arith, length-append segment.octets (segment_last segment.kind ∷ [])) in
+    let list : length (items_text First items) ≡ length (text_of segment) = ap length (append-nil (text_of segment)) in
+    record {
+      writable = record {
+        written = All-from_recursion (λ one. IsTrue (is_written one.what)) items (written, tt);
+        first = λ one others e. sym (first_is one items others e);
+        deltas = All-from_recursion (λ one. one.delta < 2 ^ 28) items (omega arith, tt);
+        short = omega (arith, list, text, few);
+      };
+      within = All-from_recursion (λ one. IsWhat one.what) items (is.message, tt);
+    }
 
-section_again : SectionsReadBack → (sent : List Sent) (journal : Bool) (rest : List ℕ) → length (list_text (timed_of sent)) ≤ 4095 → have_fields (timed_of sent) ≡ true → AreCommands sent →
-    section_read (section_of (timed_of sent) journal ++ rest) ≡ Ok (record { items = items_of (timed_of sent); journal = journal; used = length (section_of (timed_of sent) journal) })
-section_again back sent journal rest short fields are =
-    let ts = timed_of sent in
-    let again = (back (items_of ts) journal rest (are_writable sent short fields) (have_items sent are)).again in
-    subst (λ (these : List Timed). section_read (section_of these journal ++ rest) ≡ Ok (record { items = items_of ts; journal = journal; used = length (section_of these journal) })) (timed_again ts) again
+-- the first one that waits
+later_parts : (sent waiting : List Segment) → AllByRecursion IsSectionPart (sent ++ waiting) → AllByRecursion IsSectionPart waiting
+later_parts [] waiting h = h
+later_parts (one ∷ sent) waiting h = later_parts sent waiting h.1
+
+pub some_segments : (command : Command) (sent : List Segment) (segment : Segment) (others : List Segment) → segments_in command ≡ sent ++ segment ∷ others → is_long command ≡ true
+some_segments command sent segment others parts = elim (cases_Bool (is_long command)) [
+  | inl long ↦ long
+  | inr short ↦
+      let none : [] ≡ sent ++ segment ∷ others = rw short at parts in
+      let count = length-append sent (segment ∷ others) in
+      let zero : 0 ≡ length (sent ++ segment ∷ others) = ap length none in
+      absurd (omega (arith, count, zero))
+]
+
+pub first_part : (number : ℕ) (segment : Segment) (others : List Segment) (pending : List Entry) → WaitOfOne (segment ∷ others) pending → AreCommands (as_sent number pending) → IsSectionPart segment
+first_part number segment others pending waits are =
+    let command = waits.entry.command in
+    let alone : AreCommands (as_sent number (waits.entry ∷ [])) = subst (λ (entries : List Entry). AreCommands (as_sent number entries)) waits.alone are in
+    let long : is_long command ≡ true = some_segments command waits.sent segment others waits.parts in
+    let all : AllByRecursion IsSectionPart (waits.sent ++ segment ∷ others) = subst (λ (segments : List Segment). AllByRecursion IsSectionPart segments) waits.parts (command_parts command long alone.0) in
+    (later_parts waits.sent (segment ∷ others) all).0
+
+-- what the next packet holds
+pub next_sent : (number : ℕ) (waiting : List Segment) (pending : List Entry) → ArePackets waiting pending → WaitAlone waiting pending → AreCommands (as_sent number pending)
+    → AreSent (items_by (next_segment waiting) (timed_of (as_sent number (entries_sent waiting pending))))
+next_sent number [] pending fits alone are = commands_sent number pending fits alone are
+next_sent number (segment ∷ others) pending fits alone are = part_sent segment (first_part number segment others pending alone are) fits.0.few
+
+-- its MIDI list is that of its items
+list_is_items : (part : Option Segment) (sent : List Sent) → list_of part sent ≡ items_text First (items_by part (timed_of sent))
+unfolding item_text what_text
+list_is_items None sent = sym (items_text-commands First (timed_of sent))
+list_is_items (Some segment) sent = sym (append-nil (text_of segment))
+
+section_again : SectionsReadBack → (items : List Item) (journal : Bool) (rest : List ℕ) → AreSent items →
+    section_read (section items journal ++ rest) ≡ Ok (record { items = items; journal = journal; used = length (section items journal) })
+section_again back items journal rest are = (back items journal rest are.writable are.within).again
 
 -- ---- what a receiver opens
 
@@ -150,7 +220,8 @@ logs_none octets place false none = refl
 pub record IsSendable (ssrc : ℕ) (session : Session) : Type 0 where
   pub ssrc_is : session.members.host.ssrc ≡ ssrc
   pub small : ssrc < 2 ^ 32
-  pub fits : IsOnePacket session.stream.pending
+  pub fits : ArePackets session.stream.waiting session.stream.pending
+  pub alone : WaitAlone session.stream.waiting session.stream.pending
   pub sent : AreCommands (sent_of session.stream)
   pub pending : AreCommands (pending_of session.stream)
   pub limits : KeepsLimits (checkpoint_of session) (sent_of session.stream)
@@ -162,32 +233,33 @@ module _ (header_back : HeadersReadBack) (section_back : SectionsReadBack) (ssrc
   abbrev next : List Sent
   next = next_of session.stream tick
 
+  abbrev items : List Item
+  items = items_of_cut session tick
+
   abbrev text : List ℕ
-  text = section_of (timed_of_cut session tick) (has_journal number)
+  text = section items (has_journal number)
 
   abbrev head : Header
-  head = header_of session.members.host.ssrc number (tick_of_cut session tick) (list_text (timed_of_cut session tick))
+  head = header_of session.members.host.ssrc number (tick_of_cut session tick) (items_text First items)
 
   abbrev told : List ℕ
   told = journal_of (checkpoint_of session) number (tick_of_cut session tick) (sent_of session.stream)
 
   parts : packet_of session tick ≡ (header head ++ text) ++ told
   unfolding packet_text
-  parts = refl
+  parts = ap (λ (list : List ℕ). (header (header_of session.members.host.ssrc number (tick_of_cut session tick) list) ++ (section_header (length list) (has_journal number) ++ list)) ++ told) (list_is_items (next_packet session.stream tick).packet.part next)
 
   apart : packet_of session tick ≡ header head ++ (text ++ told)
   apart = parts ∙ append_assoc (header head) text told
 
-  any : timed_of next ≡ timed_of (as_sent 0 session.stream.pending)
-  any = timed_any number 0 session.stream.pending
+  are_sent : AreSent items
+  are_sent = next_sent number session.stream.waiting session.stream.pending is.fits is.alone (commands_any (number_of_pending session.stream) number [] session.stream.pending is.pending)
 
   is_header : IsHeader head
   is_header = let small = is.small in let same = is.ssrc_is in record { number = omega arith; tick = omega arith; ssrc = omega arith }
 
   section_told : section_read (text ++ told) ≡ Ok (section_of_cut session tick)
-  section_told =
-      section_again section_back next (has_journal number) told
-      (rw any is.fits.short) (rw any is.fits.fields) is.pending
+  section_told = section_again section_back items (has_journal number) told are_sent
 
   packet_told : packet_read (packet_of session tick) ≡ Ok (read_of_cut ssrc session tick)
   packet_told =
@@ -228,7 +300,7 @@ module _ (header_back : HeadersReadBack) (section_back : SectionsReadBack) (ssrc
         let no : has_journal number ≡ false = rw none refl in
         let zero : number % 65536 ≡ 0 = omega (arith, none) in
         opened_as (packet_of session tick) (read_of_cut ssrc session tick) [] packet_told (logs_none (packet_of session tick) (journal_begins session tick) (has_journal number) no)
-        ∙ ap (λ (n : ℕ). Ok (record { number = n; tick = tick_of_cut session tick % 2 ^ 32; items = items_of (timed_of_cut session tick); logs = [] })) zero;
+        ∙ ap (λ (n : ℕ). Ok (record { number = n; tick = tick_of_cut session tick % 2 ^ 32; items = items_of_cut session tick; logs = [] })) zero;
     later = λ l.
         opened_as (packet_of session tick) (read_of_cut ssrc session tick) (logs_of_cut session tick) packet_told
         (logs_told (packet_of session tick) (journal_begins session tick) (checkpoint_of session % 65536) (has_journal number) (logs_of_cut session tick) (some_journal l) (journal_told l));
@@ -244,7 +316,8 @@ sendable config steps small legal brings =
     record {
       ssrc_is = (peers_come config steps).ssrc;
       small = small;
-      fits = subst (λ (s : Stream). IsOnePacket s.pending) (sym same) (packets_fit config steps legal).1;
+      fits = subst (λ (s : Stream). ArePackets s.waiting s.pending) (sym same) (packets_fit config steps legal).1;
+      alone = subst (λ (s : Stream). WaitAlone s.waiting s.pending) (sym same) (waits_alone config steps legal);
       sent = subst (λ (s : Stream). AreCommands (sent_of s)) (sym same) (first_commands (sent_of stream) (pending_of stream) all);
       pending = subst (λ (s : Stream). AreCommands (pending_of s)) (sym same) (later_commands (sent_of stream) (pending_of stream) all);
       limits = (legal_limits config steps legal).sent;
