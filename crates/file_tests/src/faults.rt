@@ -1,9 +1,8 @@
 //! The first fault of a file, with its place.
 
 use crate::files::{file_of, read};
-use jm_cmds::{ReadError, Sysex};
+use jm_cmds::ReadError;
 use jm_smf::FileFault::{self, BadEvent, Division, Format, HeadLength, NoStatus, NotSmf, Short};
-use std::alloc::Global;
 use std::test::Fail;
 
 /// Whole files, with their first faults.
@@ -212,39 +211,5 @@ fn faults_of_events(rt: HostRuntime) -> Result<(), Fail> {
             Err(ReadError::Fault(fault))
         );
     }
-    Ok(())
-}
-
-/// A track of one message with this many data octets.
-fn message_track(count: usize, alloc: Global) -> Result<Vec<u8>, Fail> {
-    if count > 10_000 {
-        return Err(Fail::from("a message of a test"));
-    }
-    let mut track = Vec::new(alloc);
-    let size = count + 1;
-    track.extend_from_slice(&[0, 0xf0, 0x80 | (size / 128) as u8, (size % 128) as u8])?;
-    for _ in 0..count {
-        track.push(1)?;
-    }
-    track.extend_from_slice(b"\xf7\x00\xff\x2f\x00")?;
-    Ok(track)
-}
-
-/// A message may have as many data octets as a command, and no more.
-#[test]
-fn longest_message(rt: HostRuntime) -> Result<(), Fail> {
-    let longest = message_track(Sysex::MOST, rt.alloc())?;
-    let octets = file_of(longest.as_slice(), rt.alloc())?;
-    let Ok(list) = read(octets.as_slice(), rt.alloc()) else {
-        return Err(Fail::from("a list"));
-    };
-    assert_eq!(rt; list.len(), 1);
-    assert_eq!(rt; list.as_slice()[0].command.size(), Sysex::MOST + 2);
-    let longer = message_track(Sysex::MOST + 1, rt.alloc())?;
-    let octets = file_of(longer.as_slice(), rt.alloc())?;
-    assert_eq!(rt;
-        read(octets.as_slice(), rt.alloc()),
-        Err(ReadError::Fault(BadEvent(22)))
-    );
     Ok(())
 }

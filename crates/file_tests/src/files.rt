@@ -1,6 +1,6 @@
 //! What the tests need of files and commands.
 
-use jm_cmds::{ReadError, read_command};
+use jm_cmds::{Command, ReadError, Sysex, read_command};
 use jm_smf::{FileFault, Timed, read_file};
 use std::alloc::Global;
 use std::test::Fail;
@@ -10,7 +10,7 @@ const FRONT: &[u8] = b"MThd\x00\x00\x00\x06\x00\x00\x00\x01\x01\xe0MTrk";
 
 /// The file of one track with these octets.
 pub(crate) fn file_of(track: &[u8], alloc: Global) -> Result<Vec<u8>, Fail> {
-    if track.len() > 10_000 {
+    if track.len() > 90_000 {
         return Err(Fail::from("a track of a test"));
     }
     let mut octets = Vec::new(alloc);
@@ -25,6 +25,18 @@ pub(crate) fn timed(tick: u64, octets: &[u8], alloc: Global) -> Result<Timed, Fa
     match read_command(octets, alloc) {
         Ok((command, _)) => Ok(Timed { tick, command }),
         Err(_) => Err(Fail::from("a command")),
+    }
+}
+
+/// A message of this many data octets, each of them 1.
+pub(crate) fn message(count: usize, alloc: Global) -> Result<Command, Fail> {
+    let mut octets = Vec::new(alloc);
+    for _ in 0..count {
+        octets.push(1)?;
+    }
+    match Sysex::new(octets.as_slice(), alloc) {
+        Ok(message) => Ok(Command::Sysex(message)),
+        Err(_) => Err(Fail::from("a message")),
     }
 }
 

@@ -12,4 +12,6 @@ mod files;
 #[cfg(test)]
 mod lists;
 #[cfg(test)]
+mod long;
+#[cfg(test)]
 mod writing;

@@ -1,5 +1,5 @@
 -- Which refusals a play meets in a jam: each player entered before any worker came, and each command that is made fits.
-use Rattle.std.proofs.Common.{◌≡◌, ℕ, ◌+◌, ◌<◌, ◌≤◌, ◌==◌, Bool, true, false, not, nat_lt, nat_le, if◌then◌else◌, List, [], ◌∷◌, ◌++◌, length, Some, None, refl, sym, ap, subst, ◌∙◌, inl, inr, arith, append_assoc, length-append}
+use Rattle.std.proofs.Common.{◌≡◌, ℕ, ◌+◌, ◌<◌, ◌≤◌, ◌==◌, Bool, true, false, not, nat_lt, nat_le, if◌then◌else◌, List, [], ◌∷◌, ◌++◌, length, Option, Some, None, refl, sym, ap, subst, ◌∙◌, inl, inr, arith, append_assoc, length-append}
 use Rattle.std.specs.Prelude.{◌-◌, ◌%◌}
 use Rattle.std.proofs.lemmas.Bool.{cases_Bool}
 use Rattle.std.proofs.lemmas.Bool.Decides.{nat_tests}
@@ -17,10 +17,12 @@ use Rattle.jm_book.specs.declared.steps.Step.TheVariants as step
 use Rattle.jm_book.specs.declared.answers.Entered.{Entered}
 use Rattle.jm_book.specs.declared.answers.Played.{Played}
 use Rattle.jm_book.specs.declared.answers.Played.TheVariants as played
+use Rattle.jm_book.specs.declared.answers.PlayFault.{PlayFault}
 use Rattle.jm_book.specs.declared.answers.PlayFault.TheVariants as refusal
+use Rattle.jm_book.specs.Segments.{Segment}
 use Rattle.jm_book.specs.Stream.{sent_of, pending_of}
 use Rattle.jm_book.specs.Session.{session_of, members_of, checkpoint_of}
-use Rattle.jm_book.specs.Answers.{is_known, fit_refusal, or_else, members_play, needs_cut, cut_refusal, list_with, delta_with, played_as, is_entered}
+use Rattle.jm_book.specs.Answers.{is_known, fit_refusal, or_else, members_play, is_behind_others, needs_cut, cut_refusal, list_with, delta_with, played_as, is_entered}
 use Rattle.jm_book.specs.BookAnswers.{has_room, enter_answer, play_answer}
 use Rattle.jm_book.specs.MembersConduct.{enter_count}
 use Rattle.jm_book.specs.EnterLaws.{counts_players}
@@ -60,11 +62,18 @@ is_foreseen (played.Refused (refusal.RecordFull events) command) = true
 is_foreseen (played.Refused (refusal.NeedsCut pending octets delta) command) = true
 is_foreseen _ = false
 
-foreseen_as : (serial : ℕ) (command : Command) (known room needs : Bool) (events pending octets delta : ℕ) → known ≡ true → is_foreseen (played_as serial command (if not known then Some refusal.UnknownPlayer else if not room then Some (refusal.RecordFull events) else or_else (fit_refusal fit.Yes) (if needs then Some (refusal.NeedsCut pending octets delta) else None))) ≡ true
-foreseen_as serial command false room needs events pending octets delta h = absurd cc
-foreseen_as serial command true false needs events pending octets delta h = refl
-foreseen_as serial command true true true events pending octets delta h = refl
-foreseen_as serial command true true false events pending octets delta h = refl
+needs_foreseen : (serial : ℕ) (command : Command) (needs : Bool) (pending octets delta : ℕ) → is_foreseen (played_as serial command (if needs then Some (refusal.NeedsCut pending octets delta) else None)) ≡ true
+needs_foreseen serial command true pending octets delta = refl
+needs_foreseen serial command false pending octets delta = refl
+
+cut_foreseen : (serial : ℕ) (command : Command) (waiting : List Segment) (behind : Bool) (pending octets delta : ℕ) → is_foreseen (played_as serial command (cut_refusal waiting behind pending octets delta)) ≡ true
+cut_foreseen serial command [] behind pending octets delta = needs_foreseen serial command (needs_cut behind pending octets delta) pending octets delta
+cut_foreseen serial command (segment ∷ others) behind pending octets delta = refl
+
+foreseen_as : (serial : ℕ) (command : Command) (known room : Bool) (events : ℕ) (cut : Option PlayFault) → known ≡ true → is_foreseen (played_as serial command cut) ≡ true → is_foreseen (played_as serial command (if not known then Some refusal.UnknownPlayer else if not room then Some (refusal.RecordFull events) else or_else (fit_refusal fit.Yes) cut)) ≡ true
+foreseen_as serial command false room events cut h foreseen = absurd cc
+foreseen_as serial command true false events cut h foreseen = refl
+foreseen_as serial command true true events cut h foreseen = foreseen
 
 play_foreseen : (config : Config) (steps : List Step) (player : ℕ) (command : Command) (tick : ℕ) → AlwaysFits command → player < 4 → 4 ≤ enter_count steps → is_foreseen (play_answer config steps player command tick) ≡ true
 play_foreseen config steps player command tick fits few enough =
@@ -73,10 +82,13 @@ play_foreseen config steps player command tick fits few enough =
     let low : nat_lt player 64 ≡ true = grind (arith, nat_tests, few) in
     let here : nat_lt player s.members.entered ≡ true = grind (arith, nat_tests, few, enough, entered) in
     let known : is_known s.members player ≡ true = rw low here in
+    let pending = length s.stream.pending in
     let octets = list_with s.stream command tick in
     let delta = delta_with s.stream tick in
-    let answered = foreseen_as s.stream.plays command (is_known s.members player) (has_room config steps) (needs_cut (length s.stream.pending) octets delta) config.events (length s.stream.pending) octets delta known in
-    subst (λ (f : Fit). is_foreseen (played_as s.stream.plays command (members_play (has_room config steps) config.events s.members player f (cut_refusal (length s.stream.pending) octets delta))) ≡ true)
+    let behind = is_behind_others command pending in
+    let cut = cut_refusal s.stream.waiting behind pending octets delta in
+    let answered = foreseen_as s.stream.plays command (is_known s.members player) (has_room config steps) config.events cut known (cut_foreseen s.stream.plays command s.stream.waiting behind pending octets delta) in
+    subst (λ (f : Fit). is_foreseen (played_as s.stream.plays command (members_play (has_room config steps) config.events s.members player f cut)) ≡ true)
     (sym (fits (checkpoint_of s) (sent_of s.stream ++ pending_of s.stream))) answered
 
 -- a play of one of the four players is answered so, where its command always fits

@@ -26,7 +26,7 @@ place_for octets slots = place_of (source_read octets) slots
 
 -- who joined and has sent nothing yet
 abbrev pub newcomer : (player ssrc : ℕ) → Slot
-newcomer player ssrc = record { player = player; ssrc = ssrc; receiver = record { ssrc = ssrc; last = None; state = no_state } }
+newcomer player ssrc = record { player = player; ssrc = ssrc; receiver = record { ssrc = ssrc; last = None; state = no_state; unfinished = None } }
 
 -- neither of this player's number nor of this source
 abbrev pub is_other : (player ssrc : ℕ) → Slot → Bool

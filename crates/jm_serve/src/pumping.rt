@@ -143,7 +143,7 @@ fn settle(now: u64, pumped: &Result<Pumped, AllocError>, sender: &mut Sender)
 /// was accepted since, or 10,000 units after it, or with `at_once`. The packet goes to each address that the session then sends
 /// to; a send that fails is passed over and counted. Where a cut is answered that a participant is too far behind, that one is
 /// taken out and the next cut is tried, after at most 32 departures. Calls and failed sends are counted in `sender` whatever
-/// comes of it.
+/// comes of it. Of a message that waits in segments (RFC 6295, section 3.2) a packet has one.
 ///
 /// `out` has room for 21,100 octets.
 ///

@@ -139,11 +139,11 @@ made_is : (octets : List ℕ) → IfOk (sysex_made octets) (λ made. (made ≡ o
 made_is octets =
     elim (cases_Bool (ltb (data_len octets) (length octets))) [
       | inl t ↦ rw t tt
-      | inr f ↦ elim (cases_Bool (ltb 2046 (length octets))) [
+      | inr f ↦ elim (cases_Bool (ltb 65536 (length octets))) [
         | inl t ↦ rw (f, t) tt
         | inr g ↦
             let whole = ltb-false (data_len octets) (length octets) f in
-            let few = ltb-false 2046 (length octets) g in
+            let few = ltb-false 65536 (length octets) g in
             let within : data_len octets ≤ length octets = prefix_len-le-length is_data octets in
             rw (f, g) (refl, rw (take-length octets) at (IsSysex-front octets (length octets) (omega (arith, whole, within)) (omega arith) few))
       ]

@@ -89,7 +89,7 @@ pub message_made : (octets : List ℕ) → IsSysex octets → sysex_made octets 
 message_made octets h =
     let n = data_whole octets h.octets_are_data in
     let whole : nat_lt (data_len octets) (length octets) ≡ false = le-ltb (data_len octets) (length octets) (omega (arith, n)) in
-    rw (whole, le-ltb 2046 (length octets) h.few) refl
+    rw (whole, le-ltb 65536 (length octets) h.few) refl
 
 -- ---- commands one after another
 

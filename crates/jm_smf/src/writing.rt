@@ -62,7 +62,7 @@ fn lead_len(command: &Command) -> usize
 #[tactic(auto, unfolding(crate::specs::File::event))]
 fn event_len(delta: u64, command: &Command) -> usize
     ensures value { result ≡ length (event delta command.now) }
-    ensures bound { result ≤ 2057 }
+    ensures bound { result ≤ 65547 }
 {
     let skipped = if command.status() == 0xf0 { 1 } else { 0 };
     delta_len(delta) + lead_len(command) + (command.size() - skipped)
@@ -113,12 +113,12 @@ fn push_event(
     out: &mut Vec<u8>,
 ) -> Result<(), AllocError>
     requires range { delta < 2 ^ 28 }
-    requires room { 2048 ≤ room.old.spare + length room.old.octets }
+    requires room { 65538 ≤ room.old.spare + length room.old.octets }
     ensures room { room.new.spare + length room.new.octets ≡ room.old.spare + length room.old.octets }
     ensures written { OnOk result (out.new.items ≡ out.old.items ++ event delta command.now) }
 {
     // that a command has a size says that its numbers are within their bounds
-    prove!(command.size() <= 2048);
+    prove!(command.size() <= 65538);
     room.clear();
     write_delta(delta, room);
     write_lead(command, room);

@@ -18,4 +18,6 @@ mod messages;
 #[cfg(test)]
 mod peers;
 #[cfg(test)]
+mod segments;
+#[cfg(test)]
 mod serve;
