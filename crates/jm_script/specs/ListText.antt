@@ -1,5 +1,5 @@
 -- What is printed of the entries of sections, and of what is to be reported to whom.
-use Rattle.std.specs.Prelude.{ℕ, List, [], ◌∷◌, ◌++◌, codes, decimal}
+use Rattle.std.specs.Prelude.{ℕ, List, [], ◌∷◌, ◌++◌, length, codes, decimal}
 use Rattle.hex.specs.Hex.{encode_lower}
 use Rattle.jm_wire.specs.Numbers.{be32}
 use Rattle.jm_cmds.specs.Command.{spelling}
@@ -22,7 +22,7 @@ part_word Cancel = codes "part-cancel-"
 -- a command by its octets, a segment by the number of its data octets, and what is passed over by its first octet
 unfoldable pub what_text : What → List ℕ
 what_text (Whole command) = encode_lower (spelling command)
-what_text (Part kind octets) = part_word kind ++ decimal octets
+what_text (Part kind octets) = part_word kind ++ decimal (length octets)
 what_text (Passed octet) = codes "passed-" ++ encode_lower (octet ∷ [])
 
 -- an item with its delta time

@@ -92,7 +92,9 @@ fn item_len(item: &Item) -> usize
 {
     match &item.what {
         What::Whole(command) => pieces_len(&whole_pieces(item.delta, command)),
-        What::Part { kind, octets } => { pieces_len(&segment_pieces(item.delta, *kind, *octets)) }
+        What::Part { kind, octets } => {
+            pieces_len(&segment_pieces(item.delta, *kind, octets.len()))
+        }
         What::Passed(octet) => pieces_len(&passed_pieces(item.delta, *octet)),
     }
 }
@@ -106,7 +108,7 @@ fn write_item(item: &Item, out: &mut Octets)
     match &item.what {
         What::Whole(command) => write_pieces(&whole_pieces(item.delta, command), out),
         What::Part { kind, octets } => {
-            write_pieces(&segment_pieces(item.delta, *kind, *octets), out)
+            write_pieces(&segment_pieces(item.delta, *kind, octets.len()), out)
         }
         What::Passed(octet) => write_pieces(&passed_pieces(item.delta, *octet), out),
     }

@@ -40,7 +40,7 @@ fn hex_len(octets: &[u8]) -> usize
 #[tactic(auto, using(crate::proofs::HexLemmas::hex_length))]
 fn spelled_len(command: &Command) -> usize
     ensures len { result ≡ length (encode_lower (spelling command.now)) }
-    ensures few { result ≤ 4096 }
+    ensures few { result ≤ 131076 }
 {
     2 * command.size()
 }

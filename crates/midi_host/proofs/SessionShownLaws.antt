@@ -27,7 +27,7 @@ use Rattle.jm_script.specs.declared.line.Line.TheVariants as line
 use Rattle.jm_script.specs.declared.line.Line.TheVariants.{ShowState}
 use Rattle.jm_script.specs.declared.line.LineFault.{LineFault}
 use Rattle.jm_script.specs.AnswerText.{answer_text}
-use Rattle.midi_host.specs.declared.conversation.TheConstants.{MOST_LINES}
+use Rattle.midi_host.specs.declared.conversation.TheConstants.{MOST_LINES, MOST_OCTETS}
 use Rattle.midi_host.specs.Repair.{took_lines, taken_by, made_for, packet_to, shown, repaired_line, repair_lined}
 use Rattle.midi_host.specs.StateLines.{state_lines}
 use Rattle.midi_host.specs.Told.{Told, Lined, taken, refused, lined_by, after, after_line, within_limits, told_by}
@@ -79,7 +79,7 @@ nothing_agrees = record {
 }
 
 abbrev begun : (ssrc : ℕ) → Received
-begun ssrc = record { ssrc = ssrc; last = None; state = no_state }
+begun ssrc = record { ssrc = ssrc; last = None; state = no_state; unfinished = None }
 
 -- the packet is taken, and the receiver is in step behind it
 record Takes (r : Received) (octets : List ℕ) (packet : ℕ) (sent : List Sent) : Type 0 where
@@ -132,7 +132,7 @@ module _ (ssrc : ℕ) (sent : List Sent) where
       let source = source_opened ssrc one.octets is.packet.read is.packet.opens in
       goes_on (begun ssrc) one (packet_to None one.octets) refl (ap (λ (read : Result ℕ PacketFault). made_for read one.octets) source)
       (takes (begun ssrc) one.octets one.checkpoint one.number sent is.packet is.session is.early is.near
-      (record { received = new_whole ssrc; agrees = subst (λ (list : List Sent). Agrees no_state list) (sym (none_before sent)) nothing_agrees }))
+      (record { received = new_whole ssrc; unfinished = tt; agrees = subst (λ (list : List Sent). Agrees no_state list) (sym (none_before sent)) nothing_agrees }))
   packet_told None (Some r) one behind is = absurd behind
   packet_told (Some number) None one behind is = absurd behind
   packet_told (Some number) (Some r) one behind is =
@@ -231,19 +231,19 @@ module _ (ssrc : ℕ) (sent : List Sent) where
   -- ## All lines
 
   abbrev told : (before : ℕ) → Option Received → List (List ℕ) → Told
-  told before receiver lines = told_by 65536 repair_lined before receiver lines
+  told before receiver lines = told_by MOST_OCTETS repair_lined before receiver lines
 
   -- a line with which the text is still good is within the limits, and taken
   record IsGood (before : ℕ) (line : List ℕ) (lined : Lined (Option Received)) (later : Option Received → Told) : Type 0 where
     few : nat_le MOST_LINES before ≡ false
-    short : nat_lt 65536 (length line) ≡ false
+    short : nat_lt MOST_OCTETS (length line) ≡ false
     good : was_taken lined ≡ true
 
-  good_line : (before : ℕ) (line : List ℕ) (lined : Lined (Option Received)) (later : Option Received → Told) → (after_line before (within_limits 65536 before line lined) later).good ≡ true → IsGood before line lined later
+  good_line : (before : ℕ) (line : List ℕ) (lined : Lined (Option Received)) (later : Option Received → Told) → (after_line before (within_limits MOST_OCTETS before line lined) later).good ≡ true → IsGood before line lined later
   good_line before line lined later good =
       elim (cases_Bool (nat_le MOST_LINES before)) [
         | inl t ↦ absurd (let no : false ≡ true = rw t at good in cc)
-        | inr f ↦ elim (cases_Bool (nat_lt 65536 (length line))) [
+        | inr f ↦ elim (cases_Bool (nat_lt MOST_OCTETS (length line))) [
           | inl t ↦ absurd (let no : false ≡ true = rw (f, t) at good in cc)
           | inr g ↦ record { few = f; short = g; good = by_lined lined (rw (f, g) at good) }
         ]
@@ -254,9 +254,9 @@ module _ (ssrc : ℕ) (sent : List Sent) where
       by_lined (refused cause) good = absurd cc
 
   -- so it is told by itself, whatever lines come behind it
-  line_told : (before : ℕ) (receiver : Option Received) (line : List ℕ) (lines : List (List ℕ)) (text : List ℕ) (next : Option Received) → nat_le MOST_LINES before ≡ false → nat_lt 65536 (length line) ≡ false →
+  line_told : (before : ℕ) (receiver : Option Received) (line : List ℕ) (lines : List (List ℕ)) (text : List ℕ) (next : Option Received) → nat_le MOST_LINES before ≡ false → nat_lt MOST_OCTETS (length line) ≡ false →
       repair_lined receiver line ≡ taken text next → told before receiver (line ∷ lines) ≡ after text (told (before + 1) next lines)
-  line_told before receiver line lines text next few short is = rw (told_by_more 65536 repair_lined before receiver line lines, few, short, is) refl
+  line_told before receiver line lines text next few short is = rw (told_by_more MOST_OCTETS repair_lined before receiver line lines, few, short, is) refl
 
   -- a text that has this answer right behind those before it
   record Answers (text before this : List ℕ) : Type 0 where
@@ -270,7 +270,7 @@ module _ (ssrc : ℕ) (sent : List Sent) where
       packets_in front ≡ octets_of brought → AreNext ssrc sent last brought → line_read line ≡ Ok ShowState → IsOpen (sent_by (last_of last brought) sent) → (told before receiver (front ++ line ∷ [])).good ≡ true →
       Answers (told before receiver (front ++ line ∷ behind)).text (told before receiver front).text (session_text (last_of last brought) sent)
   walk [] before receiver last [] line behind is packets are state opens good =
-      let whole = told_by_more 65536 repair_lined before receiver line [] in
+      let whole = told_by_more MOST_OCTETS repair_lined before receiver line [] in
       let fine = good_line before line (repair_lined receiver line) (λ next. told (before + 1) next []) (rw whole at good) in
       let this : repair_lined receiver line ≡ taken (shown receiver) receiver = ap (lined_by (repaired_line receiver)) state in
       record {
@@ -278,11 +278,11 @@ module _ (ssrc : ℕ) (sent : List Sent) where
         parts =
             ap (λ (t : Told). t.text) (line_told before receiver line behind (shown receiver) receiver fine.few fine.short this)
             ∙ ap (λ (text : List ℕ). text ++ (told (before + 1) receiver behind).text) (shown_told last receiver is opens)
-            ∙ ap (λ (t : Told). t.text ++ (session_text last sent ++ (told (before + 1) receiver behind).text)) (sym (told_by_nothing 65536 repair_lined before receiver));
+            ∙ ap (λ (t : Told). t.text ++ (session_text last sent ++ (told (before + 1) receiver behind).text)) (sym (told_by_nothing MOST_OCTETS repair_lined before receiver));
       }
   walk [] before receiver last (one ∷ others) line behind is packets are state opens good = absurd cc
   walk (first ∷ front) before receiver last brought line behind is packets are state opens good =
-      let whole = told_by_more 65536 repair_lined before receiver first (front ++ line ∷ []) in
+      let whole = told_by_more MOST_OCTETS repair_lined before receiver first (front ++ line ∷ []) in
       let fine = good_line before first (repair_lined receiver first) (λ next. told (before + 1) next (front ++ line ∷ [])) (rw whole at good) in
       let left = line_leaves receiver (packets_in front) last is (line_read first) brought fine.good packets are in
       let one : (lines : List (List ℕ)) → told before receiver (first ∷ lines) ≡ after left.text (told (before + 1) left.next lines) =
@@ -299,13 +299,13 @@ good_later before (taken text next) later other on good = on next good
 good_later before (refused cause) later other on good = absurd cc
 
 -- a text without a bad line has none at its front
-good_front : (front behind : List (List ℕ)) (before : ℕ) (receiver : Option Received) → (told_by 65536 repair_lined before receiver (front ++ behind)).good ≡ true → (told_by 65536 repair_lined before receiver front).good ≡ true
-good_front [] behind before receiver good = ap (λ (t : Told). t.good) (told_by_nothing 65536 repair_lined before receiver)
+good_front : (front behind : List (List ℕ)) (before : ℕ) (receiver : Option Received) → (told_by MOST_OCTETS repair_lined before receiver (front ++ behind)).good ≡ true → (told_by MOST_OCTETS repair_lined before receiver front).good ≡ true
+good_front [] behind before receiver good = ap (λ (t : Told). t.good) (told_by_nothing MOST_OCTETS repair_lined before receiver)
 good_front (line ∷ front) behind before receiver good =
-    ap (λ (t : Told). t.good) (told_by_more 65536 repair_lined before receiver line front)
-    ∙ good_later before (within_limits 65536 before line (repair_lined receiver line)) (λ next. told_by 65536 repair_lined (before + 1) next (front ++ behind)) (λ next. told_by 65536 repair_lined (before + 1) next front)
+    ap (λ (t : Told). t.good) (told_by_more MOST_OCTETS repair_lined before receiver line front)
+    ∙ good_later before (within_limits MOST_OCTETS before line (repair_lined receiver line)) (λ next. told_by MOST_OCTETS repair_lined (before + 1) next (front ++ behind)) (λ next. told_by MOST_OCTETS repair_lined (before + 1) next front)
     (λ next good. good_front front behind (before + 1) next good)
-    (rw (told_by_more 65536 repair_lined before receiver line (front ++ behind)) at good)
+    (rw (told_by_more MOST_OCTETS repair_lined before receiver line (front ++ behind)) at good)
 
 module _ (input : List ℕ) (wrote wrote' : Option (List ℕ)) (front : List (List ℕ)) (line : List ℕ) (behind : List (List ℕ)) (ssrc : ℕ) (sent : List Sent) (brought : List Brought) (brings : BringSession (lines_of input) front line behind ssrc sent brought) where
   answered : (repair_told (front ++ line ∷ [])).good ≡ true → Wrote wrote wrote' (repair_answer input).text → WroteAnswer wrote wrote' (repair_told front).text (session_text (last_of None brought) sent)

@@ -36,7 +36,7 @@ taken_by receiver (Err why) = taken (answer_text (answer.NotTaken why)) (Some re
 -- A receiver of the first packet's source is made where none is. A packet whose header doesn't read makes none.
 abbrev pub made_for : Result ℕ PacketFault → List ℕ → Lined (Option Received)
 made_for (Ok source) octets =
-    let receiver : Received = record { ssrc = source; last = None; state = no_state } in
+    let receiver : Received = record { ssrc = source; last = None; state = no_state; unfinished = None } in
     taken_by receiver (accepted receiver octets)
 made_for (Err why) octets = taken (answer_text (answer.NotTaken (fault.Packet why))) None
 

@@ -1,6 +1,7 @@
 -- The words of the program, and what it answers.
 use Rattle.std.specs.Prelude.{ℕ, List, [], ◌∷◌, Option, Some, None, codes, if◌then◌else◌}
 use Rattle.std.specs.Str.{bytes_eq}
+use Rattle.midi_host.specs.declared.conversation.TheConstants.{MOST_OCTETS}
 use Rattle.midi_host.specs.declared.run.VerbWord.{VerbWord}
 use Rattle.midi_host.specs.declared.run.VerbWord.TheVariants.{Replay, Read, Repair}
 use Rattle.midi_host.specs.Text.{lines_of}
@@ -23,17 +24,17 @@ verb_of [] = None
 verb_of (word ∷ []) = verb_named word
 verb_of (word ∷ second ∷ words) = None
 
--- what `replay` answers an input: its lines are at most 8,192 octets long
+-- what `replay` answers an input: its lines are at most 131,200 octets long
 abbrev pub replay_answer : List ℕ → Told
-replay_answer input = told_by 8192 replayed 0 (opening 1) (lines_of input)
+replay_answer input = told_by MOST_OCTETS replayed 0 (opening 1) (lines_of input)
 
--- what `read` answers an input: its lines are at most 65,536 octets long
+-- what `read` answers an input: its lines are at most 131,200 octets long
 abbrev pub read_answer : List ℕ → Told
-read_answer input = told_by 65536 read_lined 0 tt (lines_of input)
+read_answer input = told_by MOST_OCTETS read_lined 0 tt (lines_of input)
 
--- what `repair` answers an input: its lines are at most 65,536 octets long
+-- what `repair` answers an input: its lines are at most 131,200 octets long
 abbrev pub repair_answer : List ℕ → Told
-repair_answer input = told_by 65536 repair_lined 0 None (lines_of input)
+repair_answer input = told_by MOST_OCTETS repair_lined 0 None (lines_of input)
 
 abbrev pub answer_of : Option VerbWord → List ℕ → Told
 answer_of None input = told_none

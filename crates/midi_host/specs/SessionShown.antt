@@ -15,6 +15,7 @@ use Rattle.jm_script.specs.declared.line.LineFault.{LineFault}
 use Rattle.jm_script.specs.declared.line.LineKind.TheVariants as kinds
 use Rattle.jm_script.specs.AnswerText.{answer_text}
 use Rattle.jm_script.specs.Line.{line_of}
+use Rattle.midi_host.specs.declared.conversation.TheConstants.{MOST_OCTETS}
 use Rattle.midi_host.specs.declared.run.VerbWord.TheVariants.{Repair}
 use Rattle.midi_host.specs.declared.status.Status.{Status}
 use Rattle.midi_host.specs.declared.status.Status.TheVariants.{Done, BadScript}
@@ -85,7 +86,7 @@ IsOpen sent = (channel : ℕ) → channel < 16 → is_crowded channel sent ≡ f
 
 -- what lines of `repair` are told
 abbrev pub repair_told : List (List ℕ) → Told
-repair_told lines = told_by 65536 repair_lined 0 None lines
+repair_told lines = told_by MOST_OCTETS repair_lined 0 None lines
 
 -- Of these lines one is `state`, and those before it bring these packets of one session, each the next one to be taken. No channel is
 -- crowded behind them.

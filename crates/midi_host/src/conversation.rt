@@ -13,8 +13,8 @@ use std::alloc::{AllocError, Global};
 /// The most lines that an input may have.
 pub const MOST_LINES: u32 = 4_194_304;
 
-/// The most octets of a line, without its end, that any verb takes.
-pub const MOST_OCTETS: usize = 65_536;
+/// The most octets of a line, without its end, of each verb.
+pub const MOST_OCTETS: usize = 131_200;
 
 /// What a verb made of a line.
 #[derive(Clone, Copy, Debug, PartialEq, Eq)]

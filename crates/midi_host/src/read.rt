@@ -9,7 +9,7 @@ ghost use Rattle.midi_host.specs.Did.{Did};
 ghost use Rattle.midi_host.specs.Read.{command_line, section_line, packet_with, journal_at, packet_line, message_line, read_out};
 
 use super::answers::Answers;
-use super::conversation::{Conversation, LineOutcome, refuse};
+use super::conversation::{Conversation, LineOutcome, MOST_OCTETS, refuse};
 use apple_msg::read_message;
 use jm_cmds::{ReadError, read_command};
 use jm_packet::{Packet, read_packet};
@@ -122,24 +122,25 @@ fn read_out(line: Line, alloc: Global, answers: &mut Answers) -> Result<LineOutc
 }
 
 impl Conversation for Read {
+    ghost use Rattle.midi_host.specs.declared.conversation.TheConstants.{MOST_OCTETS};
     ghost use Rattle.midi_host.specs.Told.{told_by};
     ghost use Rattle.midi_host.specs.Read.{read_lined};
     ghost use Rattle.std.proofs.Common.{lit≤};
     ghost use Rattle.midi_host.specs.ToldBy.{told_by_nothing, told_by_lines, told_by_too_long};
 
-    const LONGEST: usize = 65_536;
+    const LONGEST: usize = MOST_OCTETS;
 
-    ghost LONGEST = { 65536 };
+    ghost LONGEST = { MOST_OCTETS };
 
-    ghost told = { λ read before lines. told_by 65536 read_lined before tt lines };
+    ghost told = { λ read before lines. told_by MOST_OCTETS read_lined before tt lines };
 
     ghost bounded = { lit≤ tt };
 
-    ghost told_nothing = { λ read before. told_by_nothing 65536 read_lined before tt };
+    ghost told_nothing = { λ read before. told_by_nothing MOST_OCTETS read_lined before tt };
 
-    ghost told_lines = { λ read before line lines many. told_by_lines 65536 read_lined before tt line lines many };
+    ghost told_lines = { λ read before line lines many. told_by_lines MOST_OCTETS read_lined before tt line lines many };
 
-    ghost told_too_long = { λ read before line lines few long. told_by_too_long 65536 read_lined before tt line lines few long };
+    ghost told_too_long = { λ read before line lines few long. told_by_too_long MOST_OCTETS read_lined before tt line lines few long };
 
     fn line(
         &mut self,

@@ -6,7 +6,7 @@ ghost use Rattle.midi_host.specs.Did.{Did};
 ghost use Rattle.midi_host.specs.Repair.{heard_lines, took_lines, taken_by, packet_to, shown, repaired_line};
 
 use super::answers::Answers;
-use super::conversation::{Conversation, LineOutcome, refuse};
+use super::conversation::{Conversation, LineOutcome, MOST_OCTETS, refuse};
 use jm_cmds::ReadError;
 use jm_packet::read_source;
 use jm_receiver::{AcceptFault, Heard, Receiver, Took};
@@ -149,24 +149,25 @@ impl Repair {
 }
 
 impl Conversation for Repair {
+    ghost use Rattle.midi_host.specs.declared.conversation.TheConstants.{MOST_OCTETS};
     ghost use Rattle.midi_host.specs.Told.{told_by};
     ghost use Rattle.midi_host.specs.Repair.{repair_lined};
     ghost use Rattle.std.proofs.Common.{lit≤};
     ghost use Rattle.midi_host.specs.ToldBy.{told_by_nothing, told_by_lines, told_by_too_long};
 
-    const LONGEST: usize = 65_536;
+    const LONGEST: usize = MOST_OCTETS;
 
-    ghost LONGEST = { 65536 };
+    ghost LONGEST = { MOST_OCTETS };
 
-    ghost told = { λ repair before lines. told_by 65536 repair_lined before repair.receiver lines };
+    ghost told = { λ repair before lines. told_by MOST_OCTETS repair_lined before repair.receiver lines };
 
     ghost bounded = { lit≤ tt };
 
-    ghost told_nothing = { λ repair before. told_by_nothing 65536 repair_lined before repair.receiver };
+    ghost told_nothing = { λ repair before. told_by_nothing MOST_OCTETS repair_lined before repair.receiver };
 
-    ghost told_lines = { λ repair before line lines many. told_by_lines 65536 repair_lined before repair.receiver line lines many };
+    ghost told_lines = { λ repair before line lines many. told_by_lines MOST_OCTETS repair_lined before repair.receiver line lines many };
 
-    ghost told_too_long = { λ repair before line lines few long. told_by_too_long 65536 repair_lined before repair.receiver line lines few long };
+    ghost told_too_long = { λ repair before line lines few long. told_by_too_long MOST_OCTETS repair_lined before repair.receiver line lines few long };
 
     fn line(
         &mut self,

@@ -9,7 +9,7 @@ ghost use Rattle.apple_msg.specs.Reading.{read};
 ghost use Rattle.jm_script.specs.Line.{IsInRange};
 
 use super::answers::Answers;
-use super::conversation::{Conversation, LineOutcome, refuse};
+use super::conversation::{Conversation, LineOutcome, MOST_OCTETS, refuse};
 use super::players::{NamedPlayer, Players};
 use super::room::PacketRoom;
 use super::session_answers::{
@@ -378,24 +378,25 @@ impl Replay {
 }
 
 impl Conversation for Replay {
+    ghost use Rattle.midi_host.specs.declared.conversation.TheConstants.{MOST_OCTETS};
     ghost use Rattle.midi_host.specs.Told.{told_by};
     ghost use Rattle.midi_host.specs.Replay.{replayed, state_of};
     ghost use Rattle.std.proofs.Common.{lit≤};
     ghost use Rattle.midi_host.specs.ToldBy.{told_by_nothing, told_by_lines, told_by_too_long};
 
-    const LONGEST: usize = 8192;
+    const LONGEST: usize = MOST_OCTETS;
 
-    ghost LONGEST = { 8192 };
+    ghost LONGEST = { MOST_OCTETS };
 
-    ghost told = { λ replay before lines. told_by 8192 replayed before (state_of replay) lines };
+    ghost told = { λ replay before lines. told_by MOST_OCTETS replayed before (state_of replay) lines };
 
     ghost bounded = { lit≤ tt };
 
-    ghost told_nothing = { λ replay before. told_by_nothing 8192 replayed before (state_of replay) };
+    ghost told_nothing = { λ replay before. told_by_nothing MOST_OCTETS replayed before (state_of replay) };
 
-    ghost told_lines = { λ replay before line lines many. told_by_lines 8192 replayed before (state_of replay) line lines many };
+    ghost told_lines = { λ replay before line lines many. told_by_lines MOST_OCTETS replayed before (state_of replay) line lines many };
 
-    ghost told_too_long = { λ replay before line lines few long. told_by_too_long 8192 replayed before (state_of replay) line lines few long };
+    ghost told_too_long = { λ replay before line lines few long. told_by_too_long MOST_OCTETS replayed before (state_of replay) line lines few long };
 
     fn line(
         &mut self,

@@ -2,7 +2,7 @@
 use apple_msg::{Message, MsgFault, Name};
 use apple_session::Why;
 use jm_book::{Acted, FeedbackList};
-use jm_cmds::{Channel, CmdFault, Command, D7};
+use jm_cmds::{Channel, CmdFault, Command, D7, Sysex};
 use jm_packet::PacketFault;
 use jm_reader::JournalFault;
 use jm_receiver::{AcceptFault, HeardKind};
@@ -280,7 +280,7 @@ fn octets_that_were_read(rt: HostRuntime) -> Result<(), Fail> {
         delta: 128,
         what: What::Part {
             kind: PartKind::Cancel,
-            octets: 2,
+            octets: Sysex::new(&[1, 2], rt.alloc())?,
         },
     })?;
     items.push(Item {
@@ -339,7 +339,10 @@ fn segments_have_their_words(rt: HostRuntime) -> Result<(), Fail> {
         let mut items = Vec::new(rt.alloc());
         items.push(Item {
             delta: 0,
-            what: What::Part { kind, octets: 2046 },
+            what: What::Part {
+                kind,
+                octets: Sysex::new(&[1; 2046], rt.alloc())?,
+            },
         })?;
         assert!(rt;
             prints(
